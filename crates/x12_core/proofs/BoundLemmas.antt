@@ -8,7 +8,7 @@ use Rattle.x12_envelopes.specs.declared.moment.Moment.{Moment}
 use Rattle.x12_profile.specs.Interchange.{Bytes, book_for}
 use Rattle.x12_profile.specs.X12.{x12}
 use Rattle.x12_station.specs.History.{KeptArrival, filed}
-use Rattle.x12_station.specs.Station.{Station}
+use Rattle.x12_station.specs.Station.{Station, edition_next}
 use Rattle.x12_station.specs.StationStep.{StationStep, submit, may_submit, entered, arrive, arrive_at, writes, tick, open_submissions}
 use Rattle.x12_station.specs.StationRefusal.{orders_refusal, written_orders}
 use Rattle.x12_hub.specs.Hub.{Hub, HubStep, HubOutcome, Boxed, Refused, collect, deposit}
@@ -54,7 +54,7 @@ orders_one s i e o t le = both_ways 1 t o None le tt
 
 found_one : (s : Station) (m : Moment) (b : Bytes) (found : Option KeptArrival) → AtMost 1 (arrive_at x12 s m b found)
 unfolding AtMost
-found_one s m b None = both_ways 1 (x12.needs s.me s.agreements b).reply (writes x12 (book_for s.book (x12.needs s.me s.agreements b)) _) _ (both_ways 1 _ (Some _) None (omega arith) tt) (omega arith)
+found_one s m b None = both_ways 1 (x12.needs (edition_next s) s.me s.agreements b).reply (writes x12 (book_for s.book (x12.needs (edition_next s) s.me s.agreements b)) _) _ (both_ways 1 _ (Some _) None (omega arith) tt) (omega arith)
 found_one s m b (Some f) = both_ways 1 (bytes_eq f.body b) (Some (record { station = s; sends = option_to_list f.reply })) _ (option_short f.reply)
     (both_ways 1 (x12.is_silent b) (Some (record { station = s; sends = [] })) _ (omega arith) (both_ways 1 _ (Some _) None (omega arith) tt))
 

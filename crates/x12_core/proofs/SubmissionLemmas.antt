@@ -5,12 +5,13 @@ use native.Mathlib.Omega.{arith}
 use Rattle.std.proofs.lemmas.List.{append-nil, map-append}
 use Rattle.x12_envelopes.specs.declared.moment.Moment.{Moment}
 use Rattle.x12_envelopes.specs.declared.party.Party.{Party}
+use Rattle.x12_profile.specs.declared.edition.Edition.{Edition}
 use Rattle.x12_profile.specs.Interchange.{Bytes, Book, Order, book_for, is_within}
 use Rattle.x12_profile.specs.X12.{x12}
 use Rattle.x12_station.specs.Arriving.{IsArrival, step_to}
 use Rattle.x12_station.specs.declared.arriving.Arrival.{Arrival}
 use Rattle.x12_station.specs.History.{Submitted, Came, KeptArrival, filed, submissions}
-use Rattle.x12_station.specs.Station.{Station}
+use Rattle.x12_station.specs.Station.{Station, edition_next}
 use Rattle.x12_station.specs.StationRefusal.{orders_refusal, written_orders}
 use Rattle.x12_station.specs.StationStep.{StationStep, arrive, arrive_at, arrive_new, arrive_other, filed_now, may_submit, noted, replied, submit, submit_orders, entered, writes}
 use Rattle.x12_station.proofs.ItemLemmas.{submissions-append}
@@ -70,15 +71,15 @@ if_keeps : (s : Station) (t : Bool) (x y : Option StationStep) → Keeps s x →
 if_keeps s true x y a b = a
 if_keeps s false x y a b = b
 
-came_keeps : (s : Station) (b : Bytes) (r : Option Bytes) → submissions (s.items ++ Came b r ∷ []) ≡ submissions s.items
-came_keeps s b r = submissions-append s.items (Came b r ∷ []) ∙ append-nil (submissions s.items)
+came_keeps : (s : Station) (ed : Edition) (b : Bytes) (r : Option Bytes) → submissions (s.items ++ Came ed b r ∷ []) ≡ submissions s.items
+came_keeps s ed b r = submissions-append s.items (Came ed b r ∷ []) ∙ append-nil (submissions s.items)
 
 module _ (s : Station) (at : Moment) (b : Bytes) where
   new_keeps : (book : Book) → Keeps s (arrive_new x12 s at b book)
   new_keeps book =
-      if_keeps s (x12.needs s.me s.agreements b).reply (writes x12 book (replied x12 s b book (x12.reply s.me s.agreements at book b))) (Some (record { station = filed_now x12 s b None s.book; sends = [] }))
-      (if_keeps s (is_within book) (Some (replied x12 s b book (x12.reply s.me s.agreements at book b))) None (came_keeps s b (Some (x12.reply s.me s.agreements at book b))) tt)
-      (came_keeps s b None)
+      if_keeps s (x12.needs (edition_next s) s.me s.agreements b).reply (writes x12 book (replied x12 s b book (x12.reply (edition_next s) s.me s.agreements at book b))) (Some (record { station = filed_now x12 s b None s.book; sends = [] }))
+      (if_keeps s (is_within book) (Some (replied x12 s b book (x12.reply (edition_next s) s.me s.agreements at book b))) None (came_keeps s (edition_next s) b (Some (x12.reply (edition_next s) s.me s.agreements at book b))) tt)
+      (came_keeps s (edition_next s) b None)
 
   other_keeps : (book : Book) → Keeps s (arrive_other x12 s at b book)
   other_keeps book =
@@ -86,7 +87,7 @@ module _ (s : Station) (at : Moment) (b : Bytes) where
       refl (if_keeps s (is_within book) (Some (noted x12 s book (x12.refusal 25 s.me at book.interchange b))) None refl tt)
 
   at_keeps : (f : Option KeptArrival) → Keeps s (arrive_at x12 s at b f)
-  at_keeps None = new_keeps (book_for s.book (x12.needs s.me s.agreements b))
+  at_keeps None = new_keeps (book_for s.book (x12.needs (edition_next s) s.me s.agreements b))
   at_keeps (Some f) =
       if_keeps s (bytes_eq f.body b) (Some (record { station = s; sends = option_to_list f.reply })) (arrive_other x12 s at b (book_for s.book (record { reply = true; group = false })))
       refl (other_keeps (book_for s.book (record { reply = true; group = false })))

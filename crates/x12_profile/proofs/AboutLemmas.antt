@@ -24,6 +24,7 @@ use Rattle.x12_acks.specs.Place.{answered_groups, functional_answer, NamesGroup,
 use Rattle.x12_acks.specs.Reply.{reply_of, reply_to, reply_tas, judged_groups, answer_groups, ta1_segment, asks_acknowledgment}
 use Rattle.x12_acks.specs.Statement.{Statement, st, ak1}
 use Rattle.x12_acks.specs.Submission.{SubmittedGroup, submission_of, submitted_group}
+use Rattle.x12_profile.specs.declared.edition.Edition.{Edition}
 use Rattle.x12_profile.specs.Interchange.{Bytes, PlacedEvidence}
 use Rattle.x12_profile.specs.Laws.{IsReply, SharesGroup}
 use Rattle.x12_profile.specs.Reading.{answers_in}
@@ -202,8 +203,8 @@ module _ (g : Below) (me : Party) (a : List TradingAgreement) (b r : Bytes) (w :
     of_answer hubs from (of_group y) to named = of_997 y from named.1 (outline_of hb.delims b) refl to
     of_answer hubs from unclear to named = absurd named
 
-  pub about : (hubs : List Party) (x : Bytes) (e : PlacedEvidence) → Contains (x12.evidence hubs r x) e → (x12.number b ≡ x12.number x) ⊎ SharesGroup x12 b x
-  about hubs x e told =
-      let t = telling hubs r x e told in
+  pub about : (ed : Edition) (hubs : List Party) (x : Bytes) (e : PlacedEvidence) → Contains (x12.evidence ed hubs r x) e → (x12.number b ≡ x12.number x) ⊎ SharesGroup x12 b x
+  about ed hubs x e told =
+      let t = telling ed hubs r x e told in
       of_answer x t.header t.outline t.is_header t.is_outline hubs (x12.sender r) t.answer
       (all_in (IsTo hb.icn (answered_in (outline_of hb.delims b))) (answers_in r) t.answer (all_answered (outline_of hb.delims b) refl) t.answers) t.named

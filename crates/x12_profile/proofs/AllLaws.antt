@@ -24,7 +24,7 @@ all_laws g = record {
     about = about.about g;
     is_taken = reply.is_taken g;
     tells = telling.tells g;
-    accepts = reply.accepts g;
+    result = reply.result g;
     accepts_no_group = reply.accepts_no_group g;
     accepts_no_other = reply.accepts_no_other g;
   };

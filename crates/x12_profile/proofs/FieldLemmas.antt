@@ -21,7 +21,13 @@ use Rattle.x12_acks.specs.Submission.{submission_of}
 use Rattle.x12_profile.specs.Interchange.{Bytes, PlaceOfSet, Book, Order}
 use Rattle.x12_profile.specs.Reading.{header_in, outline_in, answers_in, if_ok}
 use Rattle.x12_profile.specs.Order.{order_interchange}
-use Rattle.x12_profile.specs.X12.{x12, accepted_in, accepts_at, group_numbers, is_order_outline, is_refused, needs_of, sets_by_place, submission_in_bytes, told_by_piece}
+use Rattle.x12_profile.specs.declared.edition.Edition.{Edition}
+use Rattle.x12_profile.specs.declared.edition.Edition.TheVariants.{First}
+use Rattle.x12_profile.specs.X12.{x12, accepted_in, result_at, group_numbers, is_order_outline, is_refused, judged_by, needs_of, sets_by_place, submission_in_bytes, told_by_piece}
+
+-- by the one edition
+pub is_first : (ed : Edition) (me : Party) (a : List TradingAgreement) (h : Header) (b : Bytes) → judged_by ed me a h b ≡ judgement_of me a h b
+is_first First me a h b = refl
 
 -- bytes with a header
 pub header_known : (b : Bytes) → IsTrue (x12.has_header b) → (h : Header) × (header_of b ≡ Ok h)
@@ -49,21 +55,21 @@ module _ (b : Bytes) (h : Header) (is : header_of b ≡ Ok h) where
   unfolding x12 header_in
   number_is = rw is refl
 
-  pub refuses_is : (me : Party) → x12.refuses me b ≡ is_refused (judgement_of me [] h b).verdict
+  pub refuses_is : (ed : Edition) (me : Party) → x12.refuses ed me b ≡ is_refused (judged_by ed me [] h b).verdict
   unfolding x12 header_in
-  refuses_is me = rw is refl
+  refuses_is ed me = rw is refl
 
-  pub verdict_is : (me : Party) (a : List TradingAgreement) (k : PlaceOfSet) → x12.verdict me a b k ≡ accepts_at k (accepted_by_verdict h.sender h.icn (judgement_of me a h b).verdict)
+  pub verdict_is : (ed : Edition) (me : Party) (a : List TradingAgreement) (k : PlaceOfSet) → x12.verdict ed me a b k ≡ result_at k (accepted_by_verdict h.sender h.icn (judged_by ed me a h b).verdict)
   unfolding x12 header_in
-  verdict_is me a k = rw is refl
+  verdict_is ed me a k = rw is refl
 
-  pub needs_is : (me : Party) (a : List TradingAgreement) → x12.needs me a b ≡ needs_of me a b h
+  pub needs_is : (ed : Edition) (me : Party) (a : List TradingAgreement) → x12.needs ed me a b ≡ needs_of ed me a b h
   unfolding x12 header_in
-  needs_is me a = rw is refl
+  needs_is ed me a = rw is refl
 
-  pub reply_is : (me : Party) (a : List TradingAgreement) (at : Moment) (book : Book) → x12.reply me a at book b ≡ written (reply_of h (judgement_of me a h b) me at book.interchange book.group)
+  pub reply_is : (ed : Edition) (me : Party) (a : List TradingAgreement) (at : Moment) (book : Book) → x12.reply ed me a at book b ≡ written (reply_of h (judged_by ed me a h b) me at book.interchange book.group)
   unfolding x12 header_in
-  reply_is me a at book = rw is refl
+  reply_is ed me a at book = rw is refl
 
   pub refusal_is : (note : ℕ) (me : Party) (at : Moment) (icn : ℕ) → x12.refusal note me at icn b ≡ written (refusal_of note h me at icn)
   unfolding x12 header_in
@@ -131,13 +137,13 @@ module _ (b : Bytes) (f : HeaderFault) (is : header_of b ≡ Err f) where
   unfolding x12 header_in outline_in
   not_submitted_of = rw is refl
 
-pub accepts_is : (b r : Bytes) (k : PlaceOfSet) → x12.accepts b r k ≡ accepts_at k (accepted_in b r)
+pub result_is : (b r : Bytes) (k : PlaceOfSet) → x12.result b r k ≡ result_at k (accepted_in b r)
 unfolding x12
-accepts_is b r k = refl
+result_is b r k = refl
 
-pub evidence_is : (hubs : List Party) (b x : Bytes) → x12.evidence hubs b x ≡ flat_map told_by_piece (evidence_of hubs (submission_in_bytes x ++ []) (x12.sender b) (answers_in b))
+pub evidence_is : (ed : Edition) (hubs : List Party) (b x : Bytes) → x12.evidence ed hubs b x ≡ flat_map told_by_piece (evidence_of hubs (submission_in_bytes x ++ []) (x12.sender b) (answers_in b))
 unfolding x12
-evidence_is hubs b x = refl
+evidence_is ed hubs b x = refl
 
 pub orders_are : (me to : Party) (at : Moment) (book : Book) (texts : List Order) → x12.orders me to at book texts ≡ written (order_interchange me to at book texts)
 unfolding x12

@@ -22,6 +22,7 @@ use Rattle.x12_judge.specs.Agreement.{is_same_party}
 use Rattle.x12_acks.specs.Answer.{Acknowledgment, of_interchange, of_group, unclear, FunctionalGroupAnswer}
 use Rattle.x12_acks.specs.Submission.{Submission, SubmittedGroup, KeyedGroup, keyed_group, keyed_groups, keyed_sets, submission_of}
 use Rattle.x12_acks.specs.Evidence.{answer_evidence, evidence_of, group_evidence, is_acknowledged_by, or_unmatched, rejected, tells_each}
+use Rattle.x12_profile.specs.declared.edition.Edition.{Edition}
 use Rattle.x12_profile.specs.Interchange.{Bytes, PlacedEvidence}
 use Rattle.x12_profile.specs.Reading.{answers_in}
 use Rattle.x12_profile.specs.X12.{x12, submission_in_bytes, told_by_piece}
@@ -122,12 +123,12 @@ pub record Telling (hubs : List Party) (b x : Bytes) : Type 0 where
   pub answers : Contains (answers_in b) answer
   pub named : IsNamed hubs (x12.sender b) (submission_of header x outline) answer
 
-module _ (hubs : List Party) (b x : Bytes) (e : PlacedEvidence) (tells : Contains (x12.evidence hubs b x) e) where
+module _ (ed : Edition) (hubs : List Party) (b x : Bytes) (e : PlacedEvidence) (tells : Contains (x12.evidence ed hubs b x) e) where
   abbrev evidence_for : List Submission → List PlacedEvidence
   evidence_for ss = flat_map told_by_piece (evidence_of hubs (ss ++ []) (x12.sender b) (answers_in b))
 
   told_for : (ss : List Submission) → submission_in_bytes x ≡ ss → Contains (evidence_for ss) e
-  told_for ss is = subst (λ es. Contains es e) (field.evidence_is hubs b x ∙ ap evidence_for is) tells
+  told_for ss is = subst (λ es. Contains es e) (field.evidence_is ed hubs b x ∙ ap evidence_for is) tells
 
   nothing : submission_in_bytes x ≡ [] → Telling hubs b x
   nothing is = none_in_nil e (subst (λ es. Contains es e) (no_evidence hubs (x12.sender b) (answers_in b)) (told_for [] is))
@@ -156,8 +157,8 @@ receiver_of : (x : Bytes) (h : Header) (o : Interchange) → header_of x ≡ Ok 
 unfolding submission_of
 receiver_of x h o is = field.receiver_is x h is
 
-pub told_by : (hubs : List Party) (b x : Bytes) (e : PlacedEvidence) → Contains (x12.evidence hubs b x) e → (x12.sender b ≡ x12.receiver x) ⊎ Contains hubs (x12.sender b)
-told_by hubs b x e h = let t = telling hubs b x e h in by t (from_named hubs (x12.sender b) (submission_of t.header x t.outline) t.answer t.named)
+pub told_by : (ed : Edition) (hubs : List Party) (b x : Bytes) (e : PlacedEvidence) → Contains (x12.evidence ed hubs b x) e → (x12.sender b ≡ x12.receiver x) ⊎ Contains hubs (x12.sender b)
+told_by ed hubs b x e h = let t = telling ed hubs b x e h in by t (from_named hubs (x12.sender b) (submission_of t.header x t.outline) t.answer t.named)
   where
     by : (t : Telling hubs b x) → (x12.sender b ≡ (submission_of t.header x t.outline).receiver) ⊎ Contains hubs (x12.sender b) → (x12.sender b ≡ x12.receiver x) ⊎ Contains hubs (x12.sender b)
     by t (inl own) = inl (own ∙ sym (receiver_of x t.header t.outline t.is_header))

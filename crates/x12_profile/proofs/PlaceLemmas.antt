@@ -10,11 +10,12 @@ use Rattle.std.proofs.lemmas.List.{map-append}
 use Rattle.std.proofs.lemmas.List.Elements.{filter-append, Contains-append_cases}
 use Rattle.x12_envelopes.specs.declared.header.Header.{Header}
 use Rattle.x12_envelopes.specs.Shape.{Interchange, FunctionalGroup, TransactionSet as ReadSet}
-use Rattle.x12_acks.specs.Evidence.{accepted, rejected, tells_each}
+use Rattle.x12_acks.specs.Evidence.{FinalFate, accepted, rejected, tells_each}
 use Rattle.x12_acks.specs.Submission.{Submission, KeyedSet, keyed_set, keyed_group, keyed_groups, keyed_sets, submission_of, submitted_group, submitted_set}
 use Rattle.x12_acks.specs.Told.{told_at}
 use Rattle.x12_profile.specs.Interchange.{Bytes, PlaceOfSet, PlacedTransactionSet, PlacedEvidence, is_place, evidence_by}
-use Rattle.x12_profile.specs.X12.{is_acceptance, sets_of_group, sets_by_place, told_by_piece}
+use Rattle.x12_profile.specs.Result.{SetResult, Rejects, fate_of_result, result_if}
+use Rattle.x12_profile.specs.X12.{sets_of_group, sets_by_place, told_by_piece}
 use Rattle.x12_numbers.proofs.Shelf.{none_in_nil, contains_cons, eq_itself}
 use Rattle.std.proofs.lemmas.Bool.{and_right}
 use Rattle.x12_acks.proofs.ToldLemmas.{each_rejected}
@@ -28,7 +29,7 @@ placed_from group functional m ss = map (at_place group functional) (enumerate_f
 
 -- What is told of each.
 
-final_is : (b : Bool) → is_acceptance (if b then accepted else rejected) ≡ b
+final_is : (b : Bool) → (if b then accepted else rejected) ≡ fate_of_result (result_if b)
 final_is true = refl
 final_is false = refl
 
@@ -36,12 +37,12 @@ abbrev keyed_from : Submission → ℕ → ℕ → List ReadSet → List KeyedSe
 keyed_from e group m ss = map (λ s. keyed_set e group s.0 s.1) (enumerate_from m (map submitted_set ss))
 
 module _ (f : ℕ → ℕ → Bool) (e : Submission) where
-  abbrev at : PlaceOfSet → Bool
-  at k = f k.group k.set
+  abbrev at : PlaceOfSet → SetResult
+  at k = result_if (f k.group k.set)
 
   sets_told : (group : ℕ) (functional : List ℕ) (m : ℕ) (ss : List ReadSet) → flat_map told_by_piece (map (told_at f) (keyed_from e group m ss)) ≡ evidence_by at (placed_from group functional m ss)
   sets_told group functional m [] = refl
-  sets_told group functional m (s ∷ ss) = ap₂ (λ (b : Bool) (es : List PlacedEvidence). record { place = record { group = group; set = m }; accepts = b } ∷ es) (final_is (f group m)) (sets_told group functional (m + 1) ss)
+  sets_told group functional m (s ∷ ss) = ap₂ (λ (z : FinalFate) (es : List PlacedEvidence). record { place = record { group = group; set = m }; fate = z } ∷ es) (final_is (f group m)) (sets_told group functional (m + 1) ss)
 
   groups_told : (n : ℕ) (gs : List FunctionalGroup) → flat_map told_by_piece (map (told_at f) (flat_map (λ g. g.sets) (map (λ g. keyed_group e g.0 g.1) (enumerate_from n (map submitted_group gs))))) ≡ evidence_by at (flat_map sets_of_group (enumerate_from n gs))
   groups_told n [] = refl
@@ -51,14 +52,14 @@ module _ (f : ℕ → ℕ → Bool) (e : Submission) where
       ap (flat_map told_by_piece) (map-append (told_at f) own more)
       ∙ flat_map-append told_by_piece (map (told_at f) own) (map (told_at f) more)
       ∙ ap₂ (λ (x y : List PlacedEvidence). x ++ y) (sets_told n g.functional 1 g.sets) (groups_told (n + 1) gs)
-      ∙ sym (map-append (λ s. record { place = s.place; accepts = at s.place }) (sets_of_group (n, g)) (flat_map sets_of_group (enumerate_from (n + 1) gs)))
+      ∙ sym (map-append (λ s. record { place = s.place; fate = fate_of_result (at s.place) }) (sets_of_group (n, g)) (flat_map sets_of_group (enumerate_from (n + 1) gs)))
 
 -- what is told of a submission's sets, by place
-pub all_told : (f : ℕ → ℕ → Bool) (h : Header) (x : Bytes) (o : Interchange) → flat_map told_by_piece (map (told_at f) (keyed_sets (submission_of h x o))) ≡ evidence_by (λ k. f k.group k.set) (sets_by_place o)
+pub all_told : (f : ℕ → ℕ → Bool) (h : Header) (x : Bytes) (o : Interchange) → flat_map told_by_piece (map (told_at f) (keyed_sets (submission_of h x o))) ≡ evidence_by (λ k. result_if (f k.group k.set)) (sets_by_place o)
 unfolding keyed_sets keyed_groups submission_of
 all_told f h x o = groups_told f (submission_of h x o) 1 o.groups
 
-pub all_rejected : (h : Header) (x : Bytes) (o : Interchange) → flat_map told_by_piece (tells_each rejected (keyed_sets (submission_of h x o))) ≡ evidence_by (λ k. false) (sets_by_place o)
+pub all_rejected : (h : Header) (x : Bytes) (o : Interchange) → flat_map told_by_piece (tells_each rejected (keyed_sets (submission_of h x o))) ≡ evidence_by (λ k. Rejects) (sets_by_place o)
 all_rejected h x o = ap (flat_map told_by_piece) (each_rejected (keyed_sets (submission_of h x o))) ∙ all_told (λ i j. false) h x o
 
 -- A place names one.

@@ -13,6 +13,8 @@ use Rattle.x12_acks.specs.Evidence.{rejected, tells_each}
 use Rattle.x12_acks.specs.Laws.{Tells, written_answers, written_ta1}
 use Rattle.x12_acks.specs.Reply.{refusal_of, reply_to, ta1_segment}
 use Rattle.x12_acks.specs.Submission.{keyed_sets, submission_of}
+use Rattle.x12_profile.specs.declared.edition.Edition.{Edition}
+use Rattle.x12_profile.specs.Result.{Rejects}
 use Rattle.x12_profile.specs.Interchange.{Bytes, PlacedEvidence, evidence_by}
 use Rattle.x12_profile.specs.Laws.{IsTa1Refusal}
 use Rattle.x12_profile.specs.Reading.{answers_in}
@@ -63,9 +65,9 @@ module _ (g : Below) (me : Party) (b r : Bytes) (w : IsTa1Refusal x12 me b r) wh
   unfolding refusal_of reply_to
   no_groups = back.groups_are g.read r refusal bytes_are fitting
 
-  pub is_taken : x12.refuses (x12.sender b) r ≡ false
+  pub is_taken : (ed : Edition) → x12.refuses ed (x12.sender b) r ≡ false
   unfolding refusal_of
-  is_taken = back.is_taken g.read b r h me w.at w.icn (ta1_segment h (codes "R") w.note ∷ []) [] known.1 bytes_are fitting
+  is_taken ed = back.is_taken ed g.read b r h me w.at w.icn (ta1_segment h (codes "R") w.note ∷ []) [] known.1 bytes_are fitting
 
   -- What it tells.
 
@@ -87,19 +89,19 @@ module _ (g : Below) (me : Party) (b r : Bytes) (w : IsTa1Refusal x12 me b r) wh
   unfolding submission_of
   number_of x hx o is = field.number_is x hx is
 
-  pub about : (hubs : List Party) (x : Bytes) (e : PlacedEvidence) → Contains (x12.evidence hubs r x) e → x12.number b ≡ x12.number x
-  about hubs x e told = let t = telling hubs r x e told in field.number_is b h known.1 ∙ named_number hubs x t ∙ sym (number_of x t.header t.outline t.is_header)
+  pub about : (ed : Edition) (hubs : List Party) (x : Bytes) (e : PlacedEvidence) → Contains (x12.evidence ed hubs r x) e → x12.number b ≡ x12.number x
+  about ed hubs x e told = let t = telling ed hubs r x e told in field.number_is b h known.1 ∙ named_number hubs x t ∙ sym (number_of x t.header t.outline t.is_header)
 
   -- the same header, read of b as of a submission
-  tells_by : (s : submission.IsSubmitted b) (hubs : List Party) → Contains hubs me → x12.evidence hubs r b ≡ evidence_by (λ k. false) (x12.sets b)
-  tells_by s hubs hub =
+  tells_by : (s : submission.IsSubmitted b) (ed : Edition) (hubs : List Party) → Contains hubs me → x12.evidence ed hubs r b ≡ evidence_by (λ k. Rejects) (x12.sets b)
+  tells_by s ed hubs hub =
       let e = submission_of s.header b s.outline in
       let bytes : r ≡ written (refusal_of w.note s.header me w.at w.icn) = w.bytes ∙ field.refusal_is b s.header s.is_header w.note me w.at w.icn in
       let rejects : Tells hubs (e ∷ []) r (tells_each rejected (keyed_sets e)) = subst (λ z. Tells hubs (e ∷ []) z (tells_each rejected (keyed_sets e))) (sym bytes) (g.tells.refusal hubs me (e ∷ []) w.note s.header b s.outline w.at w.icn s.is_header (first_alone e) (inr (hub, plainly me w.plain)) w.within (small w.note w.known)) in
-      evidence_told hubs r b s.header s.outline (tells_each rejected (keyed_sets e)) s.is_header s.is_outline rejects
+      evidence_told ed hubs r b s.header s.outline (tells_each rejected (keyed_sets e)) s.is_header s.is_outline rejects
       ∙ all_rejected s.header b s.outline
-      ∙ ap (evidence_by (λ k. false)) (sym (field.sets_are b s.header s.is_header s.outline s.is_outline))
+      ∙ ap (evidence_by (λ k. Rejects)) (sym (field.sets_are b s.header s.is_header s.outline s.is_outline))
 
   -- by a hub on a submission it rejects each set once
-  pub tells : IsTrue (x12.is_submission b) → (hubs : List Party) → Contains hubs me → x12.evidence hubs r b ≡ evidence_by (λ k. false) (x12.sets b)
-  tells orders hubs hub = tells_by (submission.submitted b orders) hubs hub
+  pub tells : IsTrue (x12.is_submission b) → (ed : Edition) (hubs : List Party) → Contains hubs me → x12.evidence ed hubs r b ≡ evidence_by (λ k. Rejects) (x12.sets b)
+  tells orders ed hubs hub = tells_by (submission.submitted b orders) ed hubs hub

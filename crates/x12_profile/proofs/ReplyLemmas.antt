@@ -24,9 +24,11 @@ use Rattle.x12_acks.specs.Laws.{written_answers}
 use Rattle.x12_acks.specs.Place.{accepted_by_reply}
 use Rattle.x12_acks.specs.Reply.{reply_of, reply_to, reply_tas, answer_groups, judged_groups}
 use Rattle.x12_profile.specs.Interchange.{Bytes, PlaceOfSet}
+use Rattle.x12_profile.specs.declared.edition.Edition.{Edition}
 use Rattle.x12_profile.specs.Laws.{IsReply}
 use Rattle.x12_profile.specs.Reading.{answers_in}
-use Rattle.x12_profile.specs.X12.{x12, accepted_in, accepts_at, group_numbers, is_refused}
+use Rattle.x12_profile.specs.Result.{takes}
+use Rattle.x12_profile.specs.X12.{x12, accepted_in, result_at, group_numbers, is_refused}
 use Rattle.x12_profile.proofs.Below.{Below}
 use Rattle.x12_profile.proofs.FieldLemmas as field
 use Rattle.x12_profile.proofs.PartyLemmas.{is_same_party-Decides}
@@ -95,7 +97,7 @@ module _ (g : Below) (me : Party) (a : List TradingAgreement) (b r : Bytes) (w :
   numbers = back.within w.book.interchange w.book.group w.within
 
   pub bytes_are : r ≡ written answer
-  bytes_are = w.bytes ∙ field.reply_is b h known.1 me a w.at w.book
+  bytes_are = w.bytes ∙ field.reply_is b h known.1 w.edition me a w.at w.book ∙ ap (λ j. written (reply_of h j me w.at w.book.interchange w.book.group)) (field.is_first w.edition me a h b)
 
   pub fitting : interchange_fits answer ≡ true
   fitting = g.fits.reply me a h b w.at w.book.interchange w.book.group known.1 (inr (plainly me w.plain)) numbers.0 numbers.1
@@ -119,9 +121,9 @@ module _ (g : Below) (me : Party) (a : List TradingAgreement) (b r : Bytes) (w :
   pub answers_are : answers_in r ≡ written_answers answer
   answers_are = back.answers_are g.read r answer bytes_are fitting
 
-  pub is_taken : x12.refuses (x12.sender b) r ≡ false
+  pub is_taken : (ed : Edition) → x12.refuses ed (x12.sender b) r ≡ false
   unfolding reply_of
-  is_taken = back.is_taken g.read b r h me w.at w.book.interchange (reply_tas h (judgement_of me a h b).verdict) (answer_groups w.at w.book.group (judged_groups (judgement_of me a h b).verdict)) known.1 bytes_are fitting
+  is_taken ed = back.is_taken ed g.read b r h me w.at w.book.interchange (reply_tas h (judgement_of me a h b).verdict) (answer_groups w.at w.book.group (judged_groups (judgement_of me a h b).verdict)) known.1 bytes_are fitting
 
   -- What it accepts.
 
@@ -132,35 +134,38 @@ module _ (g : Below) (me : Party) (a : List TradingAgreement) (b r : Bytes) (w :
       ∙ g.places.segments me a h b o w.at w.book.interchange w.book.group is
   accepted_with (Err f) is = field.no_accepted b h known.1 f is r ∙ sym (none_of_fault me a h b f is)
 
-  pub accepts : (k : PlaceOfSet) → x12.accepts b r k ≡ x12.verdict me a b k
-  accepts k = field.accepts_is b r k ∙ ap (accepts_at k) (accepted_with (outline_of h.delims b) refl) ∙ sym (field.verdict_is b h known.1 me a k)
+  verdict_here : (k : PlaceOfSet) → x12.verdict w.edition me a b k ≡ result_at k (accepted me a h b)
+  verdict_here k = field.verdict_is b h known.1 w.edition me a k ∙ ap (λ j. result_at k (accepted_by_verdict h.sender h.icn j.verdict)) (field.is_first w.edition me a h b)
 
-  nothing : accepted me a h b ≡ [] → (k : PlaceOfSet) → x12.accepts b r k ≡ false
-  nothing none k = accepts k ∙ field.verdict_is b h known.1 me a k ∙ ap (accepts_at k) none
+  pub result : (k : PlaceOfSet) → x12.result b r k ≡ x12.verdict w.edition me a b k
+  result k = field.result_is b r k ∙ ap (result_at k) (accepted_with (outline_of h.delims b) refl) ∙ sym (verdict_here k)
+
+  nothing : accepted me a h b ≡ [] → (k : PlaceOfSet) → takes (x12.result b r k) ≡ false
+  nothing none k = ap takes (result k ∙ verdict_here k ∙ ap (result_at k) none)
 
   none_without : (o : Result Interchange OutlineFault) → outline_of h.delims b ≡ o → x12.groups b ≡ [] → accepted me a h b ≡ []
   none_without (Ok o) is none = none_of_none me a h b o is (sym (field.groups_are b h known.1 o is) ∙ none)
   none_without (Err f) is none = none_of_fault me a h b f is
 
-  pub accepts_no_group : x12.groups b ≡ [] → (k : PlaceOfSet) → x12.accepts b r k ≡ false
+  pub accepts_no_group : x12.groups b ≡ [] → (k : PlaceOfSet) → takes (x12.result b r k) ≡ false
   accepts_no_group none k = nothing (none_without (outline_of h.delims b) refl none) k
 
   other_party : x12.receiver b ≢ me → (t : Bool) → is_same_party h.receiver me ≡ t → is_same_party h.receiver me ≡ false
   other_party other false is = is
   other_party other true is = absurd (other (field.receiver_is b h known.1 ∙ (is_same_party-Decides h.receiver me).0 is))
 
-  pub accepts_no_other : x12.receiver b ≢ me → (k : PlaceOfSet) → x12.accepts b r k ≡ false
+  pub accepts_no_other : x12.receiver b ≢ me → (k : PlaceOfSet) → takes (x12.result b r k) ≡ false
   accepts_no_other other k = nothing (none_of_other me a h b (other_party other (is_same_party h.receiver me) refl)) k
 
 -- A station refuses what isn't addressed to it.
 
-module _ (me : Party) (b : Bytes) (there : IsTrue (x12.has_header b)) (took : x12.refuses me b ≡ false) where
+module _ (ed : Edition) (me : Party) (b : Bytes) (there : IsTrue (x12.has_header b)) (took : x12.refuses ed me b ≡ false) where
   header : (h : Header) × (header_of b ≡ Ok h)
   header = field.header_known b there
 
   own : (t : Bool) → is_same_party header.0.receiver me ≡ t → x12.receiver b ≡ me
   own true is = field.receiver_is b header.0 header.1 ∙ (is_same_party-Decides header.0.receiver me).0 is
-  own false is = absurd (true≢false (sym (field.refuses_is b header.0 header.1 me ∙ refused_other me [] header.0 b is) ∙ took))
+  own false is = absurd (true≢false (sym (field.refuses_is b header.0 header.1 ed me ∙ ap (λ j. is_refused j.verdict) (field.is_first ed me [] header.0 b) ∙ refused_other me [] header.0 b is) ∙ took))
 
   pub refuses_others : x12.receiver b ≡ me
   refuses_others = own (is_same_party header.0.receiver me) refl

@@ -20,6 +20,7 @@ use Rattle.x12_acks.specs.Answer.{answers_of, group_answers_of}
 use Rattle.x12_acks.specs.Evidence.{evidence_of}
 use Rattle.x12_acks.specs.Laws.{IsOfOrders, HasDistinctSets}
 use Rattle.x12_profile.specs.Interchange.{Bytes, PlacedTransactionSet, is_place}
+use Rattle.x12_profile.specs.declared.edition.Edition.{Edition}
 use Rattle.x12_profile.specs.Reading.{answers_in}
 use Rattle.x12_profile.specs.X12.{x12, are_new_numbers, is_order_group, submission_in_bytes, told_by_piece}
 use Rattle.x12_profile.proofs.FieldLemmas as field
@@ -134,8 +135,8 @@ module _ (x : Bytes) (s : IsSubmitted x) where
   unfolding evidence_of
   none_told hubs y = refl
 
-  pub tells_nothing_by : (hubs : List Party) (y : Bytes) → x12.evidence hubs x y ≡ []
-  tells_nothing_by hubs y = field.evidence_is hubs x y ∙ ap (λ answers. flat_map told_by_piece (evidence_of hubs (submission_in_bytes y ++ []) (x12.sender x) answers)) answers_none ∙ none_told hubs y
+  pub tells_nothing_by : (ed : Edition) (hubs : List Party) (y : Bytes) → x12.evidence ed hubs x y ≡ []
+  tells_nothing_by ed hubs y = field.evidence_is ed hubs x y ∙ ap (λ answers. flat_map told_by_piece (evidence_of hubs (submission_in_bytes y ++ []) (x12.sender x) answers)) answers_none ∙ none_told hubs y
 
   no_numbers : (gs : List FunctionalGroup) → not (length gs == 0) ≡ true → map (λ (g : FunctionalGroup). g.number) gs ≡ [] → ⊥
   no_numbers [] some none = false_is_never_true some
@@ -149,8 +150,8 @@ module _ (x : Bytes) (s : IsSubmitted x) where
 pub has_group : (x : Bytes) → IsTrue (x12.is_submission x) → x12.groups x ≢ []
 has_group x orders none = has_group_by x (submitted x orders) none
 
-pub tells_nothing : (hubs : List Party) (b x : Bytes) → IsTrue (x12.is_submission b) → x12.evidence hubs b x ≡ []
-tells_nothing hubs b x orders = tells_nothing_by b (submitted b orders) hubs x
+pub tells_nothing : (ed : Edition) (hubs : List Party) (b x : Bytes) → IsTrue (x12.is_submission b) → x12.evidence ed hubs b x ≡ []
+tells_nothing ed hubs b x orders = tells_nothing_by b (submitted b orders) ed hubs x
 
 module _ (x : Bytes) (s : PlacedTransactionSet) where
   abbrev IsOne : List PlacedTransactionSet → Type 0

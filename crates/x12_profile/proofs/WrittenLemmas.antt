@@ -23,6 +23,7 @@ use Rattle.x12_judge.specs.Group.{FunctionalGroupVerdict}
 use Rattle.x12_acks.specs.Laws.{written_answers}
 use Rattle.x12_envelopes.specs.Letter.{letter, is_one_of}
 use Rattle.x12_acks.specs.Reply.{reply_to, reply_usage}
+use Rattle.x12_profile.specs.declared.edition.Edition.{Edition}
 use Rattle.x12_profile.specs.Interchange.{Bytes}
 use Rattle.x12_profile.specs.Reading.{answers_in}
 use Rattle.x12_profile.specs.X12.{x12, group_numbers, is_refused}
@@ -95,7 +96,7 @@ no_note h me at icn tas groups =
 none_refused : (n : Option ℕ) (vs : List FunctionalGroupVerdict) → n ≡ None → is_refused (verdict_by n vs) ≡ false
 none_refused n vs is = rw is refl
 
-module _ (g : ReadBack) (b r : Bytes) (h : Header) (me : Party) (at : Moment) (icn : ℕ) (tas : List Segment) (groups : List WrittenGroup) (known : header_of b ≡ Ok h) where
+module _ (ed : Edition) (g : ReadBack) (b r : Bytes) (h : Header) (me : Party) (at : Moment) (icn : ℕ) (tas : List Segment) (groups : List WrittenGroup) (known : header_of b ≡ Ok h) where
   abbrev w : WrittenInterchange
   w = reply_to h me at icn tas groups
 
@@ -103,9 +104,10 @@ module _ (g : ReadBack) (b r : Bytes) (h : Header) (me : Party) (at : Moment) (i
   unfolding judgement_of
   judged is fit = rw (outline_is g r w is fit) refl
 
-  pub is_taken : r ≡ written w → interchange_fits w ≡ true → x12.refuses (x12.sender b) r ≡ false
+  pub is_taken : r ≡ written w → interchange_fits w ≡ true → x12.refuses ed (x12.sender b) r ≡ false
   is_taken is fit =
-      ap (λ who. x12.refuses who r) (field.sender_is b h known)
-      ∙ field.refuses_is r (written_header w) (header_is g r w is fit) h.sender
+      ap (λ who. x12.refuses ed who r) (field.sender_is b h known)
+      ∙ field.refuses_is r (written_header w) (header_is g r w is fit) ed h.sender
+      ∙ ap (λ j. is_refused j.verdict) (field.is_first ed h.sender [] (written_header w) r)
       ∙ judged is fit
       ∙ none_refused (note_of_interchange h.sender (written_header w) (Ok (written_outline w))) (verdicts_of_groups [] (written_header w) (Ok (written_outline w))) (no_note h me at icn tas groups)

@@ -3,6 +3,8 @@
 use Rattle.x12_numbers.specs.Book.{Numbers}
 use Rattle.x12_numbers.specs.declared.book.TheConstants.{MAX_CONTROL_NUMBER}
 use Rattle.std.specs.Prelude.{ℕ, ◌+◌, List, Bool, ◌&&◌, ◌==◌, nat_le, if◌then◌else◌, map}
+use Rattle.x12_acks.specs.Evidence.{FinalFate}
+use Rattle.x12_profile.specs.Result.{SetResult, fate_of_result}
 
 -- an interchange as it is sent: the bytes from ISA through IEA's terminator
 abbrev pub Bytes : Type 0
@@ -29,11 +31,13 @@ pub record PlacedTransactionSet : Type 0 where
 -- what an acknowledgment says of one set of an interchange
 pub record PlacedEvidence : Type 0 where
   pub place : PlaceOfSet
-  pub accepts : Bool
+  pub fate : FinalFate
 
--- what a verdict says of each set, in their order
-abbrev pub evidence_by : (PlaceOfSet → Bool) → List PlacedTransactionSet → List PlacedEvidence
-evidence_by verdict sets = map (λ s. record { place = s.place; accepts = verdict s.place }) sets
+-- what a verdict lets be told of each set, in their order
+abbrev pub evidence_by :
+    (PlaceOfSet → SetResult) → List PlacedTransactionSet → List PlacedEvidence
+evidence_by verdict sets =
+    map (λ s. record { place = s.place; fate = fate_of_result (verdict s.place) }) sets
 
 -- the segments between ST and SE of an order, each a list of its elements
 abbrev pub Order : Type 0

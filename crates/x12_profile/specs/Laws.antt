@@ -5,21 +5,25 @@ use Rattle.x12_numbers.specs.Book.{is_rising}
 use Rattle.x12_envelopes.specs.declared.party.Party.{Party}
 use Rattle.x12_envelopes.specs.declared.moment.Moment.{Moment}
 use Rattle.x12_judge.specs.Agreement.{TradingAgreement}
+use Rattle.x12_profile.specs.declared.edition.Edition.{Edition}
 use Rattle.x12_profile.specs.Interchange.{Bytes, PlaceOfSet, PlacedTransactionSet, PlacedEvidence, Book, is_place, evidence_by, is_within}
 use Rattle.x12_profile.specs.Profile.{Profile}
+use Rattle.x12_profile.specs.Result.{Rejects, takes}
 
--- r is the reply of me to b, which was due, at some moment and under numbers that may be written
+-- r is the reply of me to b by some edition, which was due, at some moment and under numbers that may
+-- be written
 pub record IsReply (p : Profile) (me : Party) (a : List TradingAgreement)
     (b r : Bytes) : Type 0 where
+  pub edition : Edition
   pub at : Moment
   pub book : Book
   pub header : IsTrue (p.has_header b)
   pub plain : IsTrue (p.is_plain me)
-  pub due : IsTrue (p.needs me a b).reply
+  pub due : IsTrue (p.needs edition me a b).reply
   pub icn_taken : 1 ≤ book.interchange
-  pub gcn_taken : IsTrue (p.needs me a b).group → 1 ≤ book.group
+  pub gcn_taken : IsTrue (p.needs edition me a b).group → 1 ≤ book.group
   pub within : IsTrue (is_within book)
-  pub bytes : r ≡ p.reply me a at book b
+  pub bytes : r ≡ p.reply edition me a at book b
 
 -- r is a TA1 R by me on b, with note 009 or 025, at some moment and under a number that may be
 -- written
@@ -48,7 +52,8 @@ pub record SubmissionLaws (p : Profile) : Type 0 where
       filter (λ t. is_place s.place t.place) (p.sets x) ≡ s ∷ []
   -- what is submitted brings evidence for nothing
   pub tells_nothing :
-      (hubs : List Party) (b x : Bytes) → IsTrue (p.is_submission b) → p.evidence hubs b x ≡ []
+      (by : Edition) (hubs : List Party) (b x : Bytes) → IsTrue (p.is_submission b) →
+      p.evidence by hubs b x ≡ []
 
 -- What a station answers.
 pub record ReplyLaws (p : Profile) : Type 0 where
@@ -68,30 +73,31 @@ pub record ReplyLaws (p : Profile) : Type 0 where
   -- it tells only of what has the answered number or one of the answered groups' numbers
   pub about :
       (me : Party) (a : List TradingAgreement) (b r : Bytes) → IsReply p me a b r →
-      (hubs : List Party) (x : Bytes) (e : PlacedEvidence) → Contains (p.evidence hubs r x) e →
+      (by : Edition) (hubs : List Party) (x : Bytes) (e : PlacedEvidence) →
+      Contains (p.evidence by hubs r x) e →
       (p.number b ≡ p.number x) ⊎ SharesGroup p b x
   -- the sender of what it answers doesn't refuse it
   pub is_taken :
       (me : Party) (a : List TradingAgreement) (b r : Bytes) → IsReply p me a b r →
-      p.refuses (p.sender b) r ≡ false
+      (by : Edition) → p.refuses by (p.sender b) r ≡ false
   -- to a submission by its receiver it tells the verdict, of each set once
   pub tells :
-      (me : Party) (a : List TradingAgreement) (x r : Bytes) → IsReply p me a x r →
+      (me : Party) (a : List TradingAgreement) (x r : Bytes) (w : IsReply p me a x r) →
       IsTrue (p.is_submission x) → (n : ℕ) → IsTrue (is_rising n (p.groups x)) →
-      p.receiver x ≡ me → (hubs : List Party) →
-      p.evidence hubs r x ≡ evidence_by (p.verdict me a x) (p.sets x)
-  -- it accepts what the verdict accepts, at each place
-  pub accepts :
-      (me : Party) (a : List TradingAgreement) (b r : Bytes) → IsReply p me a b r →
-      (k : PlaceOfSet) → p.accepts b r k ≡ p.verdict me a b k
+      p.receiver x ≡ me → (by : Edition) (hubs : List Party) →
+      p.evidence by hubs r x ≡ evidence_by (p.verdict w.edition me a x) (p.sets x)
+  -- it says what the verdict says, at each place
+  pub result :
+      (me : Party) (a : List TradingAgreement) (b r : Bytes) (w : IsReply p me a b r)
+      (k : PlaceOfSet) → p.result b r k ≡ p.verdict w.edition me a b k
   -- it accepts nothing of an interchange without groups to be acknowledged, nor of one to another
   -- receiver
   pub accepts_no_group :
       (me : Party) (a : List TradingAgreement) (b r : Bytes) → IsReply p me a b r →
-      p.groups b ≡ [] → (k : PlaceOfSet) → p.accepts b r k ≡ false
+      p.groups b ≡ [] → (k : PlaceOfSet) → takes (p.result b r k) ≡ false
   pub accepts_no_other :
       (me : Party) (a : List TradingAgreement) (b r : Bytes) → IsReply p me a b r →
-      p.receiver b ≢ me → (k : PlaceOfSet) → p.accepts b r k ≡ false
+      p.receiver b ≢ me → (k : PlaceOfSet) → takes (p.result b r k) ≡ false
 
 -- What a hub answers where it knows no mailbox, and a station on other bytes under a filed number.
 pub record RefusalLaws (p : Profile) : Type 0 where
@@ -104,16 +110,17 @@ pub record RefusalLaws (p : Profile) : Type 0 where
   -- it tells only of what has the refused number
   pub about :
       (me : Party) (b r : Bytes) → IsTa1Refusal p me b r →
-      (hubs : List Party) (x : Bytes) (e : PlacedEvidence) → Contains (p.evidence hubs r x) e →
-      p.number b ≡ p.number x
+      (by : Edition) (hubs : List Party) (x : Bytes) (e : PlacedEvidence) →
+      Contains (p.evidence by hubs r x) e → p.number b ≡ p.number x
   -- the sender of what it refuses doesn't refuse it
   pub is_taken :
-      (me : Party) (b r : Bytes) → IsTa1Refusal p me b r → p.refuses (p.sender b) r ≡ false
+      (me : Party) (b r : Bytes) → IsTa1Refusal p me b r →
+      (by : Edition) → p.refuses by (p.sender b) r ≡ false
   -- by a hub on a submission it rejects each set once
   pub tells :
       (me : Party) (x r : Bytes) → IsTa1Refusal p me x r → IsTrue (p.is_submission x) →
-      (hubs : List Party) → Contains hubs me →
-      p.evidence hubs r x ≡ evidence_by (λ k. false) (p.sets x)
+      (by : Edition) (hubs : List Party) → Contains hubs me →
+      p.evidence by hubs r x ≡ evidence_by (λ k. Rejects) (p.sets x)
 
 pub record Laws (p : Profile) : Type 0 where
   pub submission : SubmissionLaws p
@@ -121,9 +128,10 @@ pub record Laws (p : Profile) : Type 0 where
   pub refusal : RefusalLaws p
   -- only the receiver of a submission, or a hub, tells of its sets
   pub told_by :
-      (hubs : List Party) (b x : Bytes) (e : PlacedEvidence) → Contains (p.evidence hubs b x) e →
+      (by : Edition) (hubs : List Party) (b x : Bytes) (e : PlacedEvidence) →
+      Contains (p.evidence by hubs b x) e →
       (p.sender b ≡ p.receiver x) ⊎ Contains hubs (p.sender b)
   -- a station refuses what isn't addressed to it
   pub refuses_others :
-      (me : Party) (b : Bytes) → IsTrue (p.has_header b) → p.refuses me b ≡ false →
-      p.receiver b ≡ me
+      (by : Edition) (me : Party) (b : Bytes) → IsTrue (p.has_header b) →
+      p.refuses by me b ≡ false → p.receiver b ≡ me

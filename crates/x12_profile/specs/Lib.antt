@@ -1,3 +1,5 @@
+pub mod Edition
+pub mod Result
 pub mod Interchange
 pub mod Profile
 pub mod Laws

@@ -10,16 +10,19 @@ use Rattle.x12_envelopes.specs.Envelope.{WrittenInterchange, written}
 use Rattle.x12_envelopes.specs.Shape.{Interchange, FunctionalGroup, TransactionSet as ReadSet}
 use Rattle.x12_judge.specs.Agreement.{TradingAgreement}
 use Rattle.x12_judge.specs.Interchange.{reading_is_silent}
-use Rattle.x12_judge.specs.Verdict.{InterchangeVerdict, refused, judged, judgement_of, group_is_acknowledgment}
+use Rattle.x12_judge.specs.Verdict.{InterchangeVerdict, refused, judged, InterchangeJudgement, judgement_of, group_is_acknowledgment}
 use Rattle.x12_acks.specs.Reply.{reply_of, refusal_of, is_reply_due, takes_group_number}
 use Rattle.x12_acks.specs.Answer.{Acknowledgment, unclear}
 use Rattle.x12_acks.specs.Submission.{Submission, submission_of}
-use Rattle.x12_acks.specs.Evidence.{Evidence as Piece, tells, unmatched, FinalFate, accepted, rejected, evidence_of}
+use Rattle.x12_acks.specs.Evidence.{Evidence as Piece, tells, unmatched, evidence_of}
 use Rattle.x12_acks.specs.Accepted.{AcceptedSet, accepted_by_verdict}
 use Rattle.x12_acks.specs.Place.{accepted_by_reply}
 use Rattle.x12_acks.specs.Told.{is_among}
+use Rattle.x12_profile.specs.declared.edition.Edition.{Edition}
+use Rattle.x12_profile.specs.declared.edition.Edition.TheVariants.{First}
 use Rattle.x12_profile.specs.Interchange.{Bytes, PlaceOfSet, PlacedTransactionSet, PlacedEvidence, Book, Needs}
 use Rattle.x12_profile.specs.Profile.{Profile}
+use Rattle.x12_profile.specs.Result.{SetResult, result_if}
 use Rattle.x12_profile.specs.Reading.{header_in, by_header, by_outline, by_both, nobody, answers_in}
 use Rattle.x12_profile.specs.Order.{are_orders, order_interchange}
 
@@ -63,50 +66,51 @@ abbrev pub is_refused : InterchangeVerdict → Bool
 is_refused (refused note) = true
 is_refused (judged groups) = false
 
+-- what an interchange with this header deserves at this station by an edition
+abbrev pub judged_by :
+    Edition → Party → List TradingAgreement → Header → Bytes → InterchangeJudgement
+judged_by First me agreements h b = judgement_of me agreements h b
+
 -- the transaction sets that a station accepts of an interchange with this header, by its verdict
-abbrev pub accepted_of : Party → List TradingAgreement → Bytes → Header → List AcceptedSet
-accepted_of me agreements b h =
-    accepted_by_verdict h.sender h.icn (judgement_of me agreements h b).verdict
+abbrev pub accepted_of :
+    Edition → Party → List TradingAgreement → Bytes → Header → List AcceptedSet
+accepted_of by me agreements b h =
+    accepted_by_verdict h.sender h.icn (judged_by by me agreements h b).verdict
 
 -- the transaction sets of an interchange that a reply to it accepts
 abbrev pub accepted_in : Bytes → Bytes → List AcceptedSet
 accepted_in b r = by_both [] (λ h x. accepted_by_reply h x (answers_in r)) b
 
--- one of these stands at this place
-abbrev pub accepts_at : PlaceOfSet → List AcceptedSet → Bool
-accepts_at k sets = is_among sets k.group k.set
+-- accepted, if one of these stands at this place
+abbrev pub result_at : PlaceOfSet → List AcceptedSet → SetResult
+result_at k sets = result_if (is_among sets k.group k.set)
 
 -- a reply that takes no number, as none is due
 abbrev pub no_needs : Needs
 no_needs = record { reply = false; group = false }
 
 -- which numbers the reply takes to an interchange with this header
-abbrev pub needs_of : Party → List TradingAgreement → Bytes → Header → Needs
-needs_of me agreements b h = record {
-  reply = is_reply_due h (judgement_of me agreements h b);
-  group = takes_group_number (judgement_of me agreements h b);
+abbrev pub needs_of : Edition → Party → List TradingAgreement → Bytes → Header → Needs
+needs_of by me agreements b h = record {
+  reply = is_reply_due h (judged_by by me agreements h b);
+  group = takes_group_number (judged_by by me agreements h b);
 }
 
 -- the reply to an interchange with this header, under the numbers of the book
 abbrev pub reply_under :
-    Party → List TradingAgreement → Moment → Book → Bytes → Header → WrittenInterchange
-reply_under me agreements at book b h =
-    reply_of h (judgement_of me agreements h b) me at book.interchange book.group
+    Edition → Party → List TradingAgreement → Moment → Book → Bytes → Header → WrittenInterchange
+reply_under by me agreements at book b h =
+    reply_of h (judged_by by me agreements h b) me at book.interchange book.group
 
 -- what is submitted by sending these bytes
 abbrev pub submission_in_bytes : Bytes → List Submission
 submission_in_bytes x = by_both [] (λ h o. submission_of h x o ∷ []) x
 
--- the fate of a set that was accepted
-abbrev pub is_acceptance : FinalFate → Bool
-is_acceptance accepted = true
-is_acceptance rejected = false
-
 -- what a piece of evidence says of a set, by place; of no set, where it fits none
 abbrev pub told_by_piece : Piece → List PlacedEvidence
 told_by_piece (tells key fate) = record {
   place = record { group = key.group; set = key.set };
-  accepts = is_acceptance fate;
+  fate = fate;
 } ∷ []
 told_by_piece unmatched = []
 
@@ -123,8 +127,9 @@ sender_of b = by_header nobody (λ h. h.sender) b
 abbrev pub pieces_for : List Party → List Bytes → Bytes → List Piece
 pieces_for hubs xs b = evidence_of hubs (flat_map submission_in_bytes xs) (sender_of b) (answers_in b)
 
--- The profile, in the order of Profile.antt. Bytes without a header come from nobody and to nobody,
--- are refused, and give empty lists, no numbers and no bytes.
+-- The profile, in the order of Profile.antt; its one edition is 004010's, in envelopes of control
+-- versions 00200 to 00401. Bytes without a header come from nobody and to nobody, are refused, and
+-- give empty lists, no numbers and no bytes.
 unfoldable pub x12 : Profile
 x12 = record {
   has_header = λ b. is_some (header_in b);
@@ -135,15 +140,15 @@ x12 = record {
   sets = by_outline [] sets_by_place;
   is_submission = by_outline false is_order_outline;
   is_silent = by_outline false (λ x. reading_is_silent (Ok x));
-  refuses = λ me b. by_header true (λ h. is_refused (judgement_of me [] h b).verdict) b;
-  verdict = λ me agreements b k. accepts_at k (by_header [] (accepted_of me agreements b) b);
-  needs = λ me agreements b. by_header no_needs (needs_of me agreements b) b;
-  reply = λ me agreements at book b.
-      by_header [] (λ h. written (reply_under me agreements at book b h)) b;
+  refuses = λ by me b. by_header true (λ h. is_refused (judged_by by me [] h b).verdict) b;
+  verdict = λ by me agreements b k. result_at k (by_header [] (accepted_of by me agreements b) b);
+  needs = λ by me agreements b. by_header no_needs (needs_of by me agreements b) b;
+  reply = λ by me agreements at book b.
+      by_header [] (λ h. written (reply_under by me agreements at book b h)) b;
   refusal = λ note me at icn b. by_header [] (λ h. written (refusal_of note h me at icn)) b;
-  evidence = λ hubs b x. flat_map told_by_piece (pieces_for hubs (x ∷ []) b);
-  accepts = λ b r k. accepts_at k (accepted_in b r);
-  pieces = pieces_for;
+  evidence = λ by hubs b x. flat_map told_by_piece (pieces_for hubs (x ∷ []) b);
+  result = λ b r k. result_at k (accepted_in b r);
+  pieces = λ by. pieces_for;
   unclear = λ b. count_by is_unclear (answers_in b);
   may_order = are_orders;
   orders = λ me to at book texts. written (order_interchange me to at book texts);

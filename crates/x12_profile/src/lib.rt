@@ -3,7 +3,9 @@
 #![tactic(auto)]
 
 mod countdown;
+mod edition;
 mod laws;
 
 pub use countdown::{Countdown, CountedDown};
+pub use edition::Edition;
 pub use laws::{orders_are_submitted, x12_meets_the_laws};

@@ -7,6 +7,7 @@ use Rattle.x12_inbound.specs.Filing.{FiledInterchange, reply_bytes}
 use Rattle.x12_inbound.specs.Order.{InterchangeKey}
 use Rattle.x12_inbound.specs.Register.{is_under}
 use Rattle.x12_outbound.specs.declared.fate.Fate.{Fate}
+use Rattle.x12_profile.specs.Edition.{edition_at}
 use Rattle.x12_station.specs.History.{Item, Came}
 use Rattle.x12_station.specs.Stored.{Stored, StoredSubmission, StoredArrival}
 use Rattle.x12_records.specs.StationTables.{fate_number, reply_value}
@@ -50,9 +51,6 @@ submission_numbered s n = find (λ r. r.seq == n) s.submitted
 abbrev pub arrival_numbered : Stored → ℕ → Option StoredArrival
 arrival_numbered s n = find (λ r. r.seq == n) s.arrived
 
--- a first arrival as an item of the history: what is filed of it, and its row
-abbrev pub item_kept : List ℕ × Option (List ℕ) → Item
-item_kept kept = Came kept.0 kept.1
-
-abbrev pub item_arrived : StoredArrival → Item
-item_arrived r = Came r.filed.bytes r.filed.reply
+-- what is filed of a first arrival of this number, as an item of the history
+abbrev pub item_kept : ℕ → List ℕ × Option (List ℕ) → Item
+item_kept n kept = Came (edition_at n) kept.0 kept.1

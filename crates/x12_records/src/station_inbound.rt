@@ -11,13 +11,13 @@ ghost use Rattle.sql_rows.specs.Kept.{IsPart};
 ghost use Rattle.x12_inbound.specs.Filing.{filed_under, reply_bytes};
 ghost use Rattle.x12_outbound.specs.Settling.{target_view};
 ghost use Rattle.x12_station.specs.Stored.{filed_in};
-ghost use Rattle.x12_station.specs.Durable.{item_at};
+ghost use Rattle.x12_station.specs.Durable.{item_at, item_of_arrival};
 ghost use Rattle.x12_station.specs.Record.{history_item};
 ghost use Rattle.x12_records.specs.StationPart.{PartGoesOn, FilesAll};
 ghost use Rattle.x12_records.specs.StationChange.{Turns, with_arrival, arrival_of, RisesBySeq};
 ghost use Rattle.x12_records.specs.StationTables.{reply_value};
 ghost use Rattle.x12_records.specs.StationFinds.{filed_shown, kept_of, kept_in, arrival_numbered};
-ghost use Rattle.x12_records.specs.StationFinds.{item_kept, item_arrived};
+ghost use Rattle.x12_records.specs.StationFinds.{item_kept};
 ghost use Rattle.x12_records.specs.StationRead.{StationAnswers};
 ghost use Rattle.x12_records.specs.StationAdopt.{IsArrivalRow, AreArrivals};
 ghost use Rattle.x12_records.specs.Adopt.{TakesRows};
@@ -134,7 +134,8 @@ pub(crate) fn find_inbound<S: Alter>(
 
 /// What is filed, as an item of the history.
 fn item_of(filed: Option<Filed>) -> Option<Item>
-    ensures { option_map history_item result ≡ option_map item_kept (option_map kept_in filed) }
+    ensures { (seq : ℕ) → option_map (history_item seq) result
+        ≡ option_map (item_kept seq) (option_map kept_in filed) }
 {
     match filed {
         Some(filed) => Some(Item::Came(filed)),
@@ -144,8 +145,8 @@ fn item_of(filed: Option<Filed>) -> Option<Item>
 
 /// The first arrival of this number among submissions and first arrivals.
 fn find_arrived<S: Alter>(conn: &mut Connection<S>, seq: u64) -> Result<Option<Item>, Error>
-    ensures { StationAnswers (λ s o. option_map history_item o ≡ option_map item_arrived
-        (arrival_numbered s seq)) result (state S.Store conn.old) (state S.Store conn.new) }
+    ensures { StationAnswers (λ s o. option_map (history_item seq) o ≡ option_map
+        (item_of_arrival seq) (arrival_numbered s seq)) result (state S.Store conn.old) (state S.Store conn.new) }
 {
     let rows = read(
         conn,
@@ -157,7 +158,7 @@ fn find_arrived<S: Alter>(conn: &mut Connection<S>, seq: u64) -> Result<Option<I
 
 /// The submission or first arrival of this number, from 1.
 pub(crate) fn find_item<S: Alter>(conn: &mut Connection<S>, seq: u64) -> Result<Option<Item>, Error>
-    ensures { StationAnswers (λ s o. option_map history_item o ≡ item_at s seq) result
+    ensures { StationAnswers (λ s o. option_map (history_item seq) o ≡ item_at s seq) result
         (state S.Store conn.old) (state S.Store conn.new) }
 {
     let submitted = find_submitted(conn, seq)?;

@@ -1,5 +1,5 @@
 -- The entries after an arrival is filed: the sets that its evidence settles have the fates of the history then.
-use Rattle.std.specs.Prelude.{◌≡◌, ℕ, ◌<◌, List, [], ◌∷◌, ◌++◌, Bool, true, false, if◌then◌else◌, map, flat_map, length, Option, Some, None, option_map, option_and_then, Contains, All, refl}
+use Rattle.std.specs.Prelude.{◌≡◌, ℕ, ◌+◌, ◌<◌, List, [], ◌∷◌, ◌++◌, Bool, true, false, if◌then◌else◌, map, flat_map, length, Option, Some, None, option_map, option_and_then, Contains, All, refl}
 use Rattle.std.specs.List.{enumerate_from}
 use mathlib.Core.Path.{sym, ap, subst, ◌∙◌}
 use Rattle.std.proofs.lemmas.List.{length-map, append-nil}
@@ -13,16 +13,18 @@ use Rattle.x12_outbound.specs.declared.fate.Fate.TheVariants.{Pending}
 use Rattle.x12_outbound.specs.Entry.{SetRow, GroupRow, submission_of_entry, set_row_at}
 use Rattle.x12_outbound.specs.Settling.{Fates, settled_fates}
 use Rattle.x12_profile.specs.Interchange.{Bytes}
+use Rattle.x12_profile.specs.declared.edition.Edition.{Edition}
+use Rattle.x12_profile.specs.Edition.{edition_at}
 use Rattle.x12_profile.specs.X12.{x12, submission_in_bytes}
 use Rattle.x12_profile.proofs.PartyLemmas.{is_same_party-Decides}
 use Rattle.x12_station.specs.History.{Item, Came, submissions, fate_in}
-use Rattle.x12_station.specs.Stored.{Stored, StoredSet, rows_of_entry}
+use Rattle.x12_station.specs.Stored.{AreNumbered, Stored, StoredSet, rows_of_entry}
 use Rattle.x12_station.specs.Plan.{rows_settled}
 use Rattle.x12_station.specs.Record.{IsWholeEntry}
 use Rattle.x12_station.specs.Durable.{items_of, fared_entries, IsOwnSubmission, IsHistoryOf}
 use Rattle.x12_station.proofs.ListLemmas.{contains_map, contains_flat_map}
 use Rattle.x12_numbers.proofs.Shelf.{contains_mapped, all_from_contains, map_twice, flat_map_same_at}
-use Rattle.x12_station.proofs.ItemLemmas.{submissions-append}
+use Rattle.x12_station.proofs.ItemLemmas.{length_items, submissions-append}
 use Rattle.x12_station.proofs.CellLemmas.{Cell, cells_of, entry_by, group_by, set_by, row_by, rows_by, map_flat_map, flat_map_map, map_same_at}
 use Rattle.x12_station.proofs.FateLemmas.{brought, fate_after}
 use Rattle.x12_station.proofs.TargetLemmas.{targets_by, IsOurs, FareSo, key_of_row, row_told, rows_told, told_is_settled}
@@ -30,8 +32,15 @@ use Rattle.x12_station.proofs.KnownLemmas.{known, all_submitted, fate_at, entry_
 use Rattle.x12_station.proofs.OwnLemmas.{submission_is, bytes_read, fates_in, entry_in}
 
 -- an arrival submits nothing
-pub submissions_stay : (items : List Item) (b : Bytes) (r : Option Bytes) → submissions (items ++ Came b r ∷ []) ≡ submissions items
-submissions_stay items b r = submissions-append items (Came b r ∷ []) ∙ append-nil (submissions items)
+pub submissions_stay : (items : List Item) (ed : Edition) (b : Bytes) (r : Option Bytes) → submissions (items ++ Came ed b r ∷ []) ≡ submissions items
+submissions_stay items ed b r = submissions-append items (Came ed b r ∷ []) ∙ append-nil (submissions items)
+
+-- the edition of what comes next to these records
+abbrev pub edition_of : Stored → Edition
+edition_of s = edition_at (length (items_of s) + 1)
+
+pub edition_is : (s : Stored) → AreNumbered s → edition_at (s.seq + 1) ≡ edition_of s
+edition_is s numbered = ap (λ n. edition_at (n + 1)) (sym (length_items s numbered))
 
 -- Whether an entry is whole isn't told by its fates.
 module _ (f g : ℕ → ℕ → Fate) (e : Submission) where
@@ -80,31 +89,31 @@ module _ (me : Party) (hubs : List Party) (s : Stored) (d : IsHistoryOf me hubs 
 
   module _ (b : Bytes) (r : Option Bytes) where
     abbrev pub items_now : List Item
-    items_now = items_of s ++ Came b r ∷ []
+    items_now = items_of s ++ Came (edition_of s) b r ∷ []
 
     pub own_now : All (IsOwnSubmission me) (submissions items_now)
-    own_now = subst (All (IsOwnSubmission me)) (sym (submissions_stay (items_of s) b r)) d.own
+    own_now = subst (All (IsOwnSubmission me)) (sym (submissions_stay (items_of s) (edition_of s) b r)) d.own
 
     pub all_stay : all_submitted items_now ≡ all_submitted (items_of s)
-    all_stay = ap (flat_map submission_in_bytes) (submissions_stay (items_of s) b r)
+    all_stay = ap (flat_map submission_in_bytes) (submissions_stay (items_of s) (edition_of s) b r)
 
     -- the fate of a submitted set after the arrival
     pub cell_now : (e : Submission) (c : Cell) → Contains (all_submitted (items_of s)) e → (fates : Fates) → fates (key_in me hubs (items_of s) d.own all_rise e c) ≡ Some (fate_at me hubs (items_of s) e c.group c.set)
-        → settled_fates fates (brought me hubs (items_of s) b) (key_in me hubs (items_of s) d.own all_rise e c) ≡ Some (fate_at me hubs items_now e c.group c.set)
+        → settled_fates fates (brought (edition_of s) me hubs (items_of s) b) (key_in me hubs (items_of s) d.own all_rise e c) ≡ Some (fate_at me hubs items_now e c.group c.set)
     cell_now e c at fates fare =
         let k = known me hubs (items_of s) d.own e at in
         let k_is = k.is in
         let bytes : e.bytes ≡ k.bytes = ap (λ (x : Submission). x.bytes) k_is ∙ bytes_read k.bytes k.read in
         let key = key_in me hubs (items_of s) d.own all_rise e c in
-        subst (λ x. settled_fates fates (brought me hubs (items_of s) b) key ≡ Some (fate_in x12 me hubs items_now x (record { group = c.group; set = c.set }))) (sym bytes)
-        (fate_after me hubs (items_of s) b r fates k.bytes e key all_rise k.at (submission_is k.bytes k.read ∙ ap (λ x. x ∷ []) (sym k_is)) refl (sym k.sender)
+        subst (λ x. settled_fates fates (brought (edition_of s) me hubs (items_of s) b) key ≡ Some (fate_in x12 me hubs items_now x (record { group = c.group; set = c.set }))) (sym bytes)
+        (fate_after (edition_of s) me hubs (items_of s) b r fates k.bytes e key all_rise k.at (submission_is k.bytes k.read ∙ ap (λ x. x ∷ []) (sym k_is)) refl (sym k.sender)
         (subst (λ x. fates key ≡ Some (fate_in x12 me hubs (items_of s) x (record { group = c.group; set = c.set }))) bytes fare))
 
     -- the rows after the evidence settled its sets
-    pub rows_now : rows_settled (targets_by history_fates (brought me hubs (items_of s) b)) s.sets ≡ flat_map rows_of_entry (fared_entries me hubs items_now)
+    pub rows_now : rows_settled (targets_by history_fates (brought (edition_of s) me hubs (items_of s) b)) s.sets ≡ flat_map rows_of_entry (fared_entries me hubs items_now)
     rows_now =
         let items = items_of s in
-        let told = brought me hubs items b in
+        let told = brought (edition_of s) me hubs items b in
         rows_told me history_fates told s.sets ours rows_fare
         ∙ ap (map (row_told me told)) (d.sound.rows ∙ ap (flat_map rows_of_entry) (d.fates ∙ entries_are me hubs items d.own) ∙ flat_map_map rows_of_entry (entry_of me hubs items d.own) (all_submitted items))
         ∙ map_flat_map (row_told me told) (λ (e : Submission). rows_of_entry (entry_of me hubs items d.own e)) (all_submitted items)
@@ -113,17 +122,17 @@ module _ (me : Party) (hubs : List Party) (s : Stored) (d : IsHistoryOf me hubs 
         ∙ flat_map_map rows_of_entry (λ (e : Submission). entry_by (fate_at me hubs items_now e) e) (all_submitted items))
       where
         one_row : (e : Submission) → Contains (all_submitted (items_of s)) e → (c : Cell) → Contains (cells_of e.groups) c
-            → row_told me (brought me hubs (items_of s) b) (row_by (fate_at me hubs (items_of s) e) e.icn c) ≡ row_by (fate_at me hubs items_now e) e.icn c
+            → row_told me (brought (edition_of s) me hubs (items_of s) b) (row_by (fate_at me hubs (items_of s) e) e.icn c) ≡ row_by (fate_at me hubs items_now e) e.icn c
         one_row e at c cell =
             let items = items_of s in
             let fare = cell_fares_in me hubs items d.own all_rise (fared_entries me hubs items) (all_of_all me hubs items d.own all_rise) e at (all_hold me hubs items d.own all_rise e at) c cell in
             ap (λ (f : Fate). record (row_by (fate_at me hubs items e) e.icn c) { fate = f })
-            (told_is_settled history_fates (brought me hubs items b) (key_in me hubs items d.own all_rise e c) (fate_at me hubs items e c.group c.set) (fate_at me hubs items_now e c.group c.set) fare (cell_now e c at history_fates fare))
+            (told_is_settled history_fates (brought (edition_of s) me hubs items b) (key_in me hubs items d.own all_rise e c) (fate_at me hubs items e c.group c.set) (fate_at me hubs items_now e c.group c.set) fare (cell_now e c at history_fates fare))
 
-        one_entry : (e : Submission) → Contains (all_submitted (items_of s)) e → map (row_told me (brought me hubs (items_of s) b)) (rows_of_entry (entry_of me hubs (items_of s) d.own e)) ≡ rows_of_entry (entry_by (fate_at me hubs items_now e) e)
+        one_entry : (e : Submission) → Contains (all_submitted (items_of s)) e → map (row_told me (brought (edition_of s) me hubs (items_of s) b)) (rows_of_entry (entry_of me hubs (items_of s) d.own e)) ≡ rows_of_entry (entry_by (fate_at me hubs items_now e) e)
         one_entry e at =
             let items = items_of s in
-            ap (map (row_told me (brought me hubs items b))) (rows_by (fate_at me hubs items e) e)
-            ∙ map_twice (row_told me (brought me hubs items b)) (row_by (fate_at me hubs items e) e.icn) (cells_of e.groups)
-            ∙ map_same_at (λ (c : Cell). row_told me (brought me hubs items b) (row_by (fate_at me hubs items e) e.icn c)) (row_by (fate_at me hubs items_now e) e.icn) (cells_of e.groups) (λ c cell. one_row e at c cell)
+            ap (map (row_told me (brought (edition_of s) me hubs items b))) (rows_by (fate_at me hubs items e) e)
+            ∙ map_twice (row_told me (brought (edition_of s) me hubs items b)) (row_by (fate_at me hubs items e) e.icn) (cells_of e.groups)
+            ∙ map_same_at (λ (c : Cell). row_told me (brought (edition_of s) me hubs items b) (row_by (fate_at me hubs items e) e.icn c)) (row_by (fate_at me hubs items_now e) e.icn) (cells_of e.groups) (λ c cell. one_row e at c cell)
             ∙ sym (rows_by (fate_at me hubs items_now e) e)

@@ -24,7 +24,7 @@ use Rattle.x12_station.proofs.DurableLemmas.{IsLater, answered_later}
 use Rattle.x12_station.proofs.FateLemmas.{brought}
 use Rattle.x12_station.proofs.TargetLemmas.{targets_by}
 use Rattle.x12_station.proofs.KnownLemmas.{all_submitted, fate_at, entry_of, entries_are, submitted_are}
-use Rattle.x12_station.proofs.ArrivedLemmas.{all_stay, own_now, items_now, history_fates, rows_now, whole_by}
+use Rattle.x12_station.proofs.ArrivedLemmas.{all_stay, edition_is, edition_of, own_now, items_now, history_fates, rows_now, whole_by}
 use Rattle.x12_station.proofs.FiledLemmas.{sound_filed}
 use Rattle.x12_station.proofs.ListLemmas.{contains_map}
 
@@ -65,27 +65,30 @@ module _ (me : Party) (hubs : List Party) (s : Stored) (d : IsHistoryOf me hubs 
   module _ (book : Numbers) where
     -- the records once the arrival is filed, with the sets that it settles
     abbrev pub filed_with : Stored
-    filed_with = stored_after (record { book = book; seq = s.seq + 1; change = Files k (targets_by (history_fates me hubs s d) (brought me hubs (items_of s) k.filed.bytes)) }) s
+    filed_with = stored_after (record { book = book; seq = s.seq + 1; change = Files k (targets_by (history_fates me hubs s d) (brought (edition_of s) me hubs (items_of s) k.filed.bytes)) }) s
 
     pub items_then : items_of filed_with ≡ now
-    items_then = items_filed s d.sound.numbered book k (targets_by (history_fates me hubs s d) (brought me hubs (items_of s) k.filed.bytes))
+    items_then =
+        items_filed s d.sound.numbered book k (targets_by (history_fates me hubs s d) (brought (edition_of s) me hubs (items_of s) k.filed.bytes))
+        ∙ ap (λ ed. items_of s ++ Came ed k.filed.bytes k.filed.reply ∷ []) (edition_is s d.sound.numbered)
 
     pub entries_filed_are : entries filed_with ≡ fared_entries me hubs now
     unfolding entries
     entries_filed_are =
-        entries_back (rows_settled (targets_by (history_fates me hubs s d) (brought me hubs (items_of s) k.filed.bytes)) s.sets) s.submitted (fared_entries me hubs now) heads_then whole_then
+        entries_back (rows_settled (targets_by (history_fates me hubs s d) (brought (edition_of s) me hubs (items_of s) k.filed.bytes)) s.sets) s.submitted (fared_entries me hubs now) heads_then whole_then
         (rise_in_order me (fared_entries me hubs now) in_order_then) (rows_now me hubs s d k.filed.bytes k.filed.reply)
 
     pub durable_filed : IsLater s.book book → s.seq + 1 ≤ 2 ^ 63 - 1 → ArePostingsOf k.filed k.postings → filed_in s k.filed.partner k.filed.icn ≡ None
-        → IsFiledRightly k.filed → WasAnswered me book k.filed → k.postings ≡ posted_by x12 (Came k.filed.bytes k.filed.reply) → IsHistoryOf me hubs filed_with
+        → IsFiledRightly k.filed → WasAnswered (edition_of s) me book k.filed → k.postings ≡ posted_by x12 (Came (edition_of s) k.filed.bytes k.filed.reply) → IsHistoryOf me hubs filed_with
     durable_filed later few theirs new rightly answered posts = record {
-      sound = sound_filed s d.sound book later few k theirs new (targets_by (history_fates me hubs s d) (brought me hubs (items_of s) k.filed.bytes));
+      sound = sound_filed s d.sound book later few k theirs new (targets_by (history_fates me hubs s d) (brought (edition_of s) me hubs (items_of s) k.filed.bytes));
       origin = d.origin;
       fates = entries_filed_are ∙ ap (fared_entries me hubs) (sym items_then);
       own = subst (λ items. All (IsOwnSubmission me) (submissions items)) (sym items_then) (own_now me hubs s d k.filed.bytes k.filed.reply);
       filed = All-push (λ (r : StoredArrival). IsFiledRightly r.filed) s.arrived _ d.filed rightly;
-      answered = All-push (IsAnsweredRightly me book) s.arrived _ (answered_later me s.book book later s.arrived d.answered) ∣ answered ∣₁;
+      answered = All-push (IsAnsweredRightly me book) s.arrived _ (answered_later me s.book book later s.arrived d.answered)
+          ∣ subst (λ ed. WasAnswered ed me book k.filed) (sym (edition_is s d.sound.numbered)) answered ∣₁;
       posted =
-          ap₂ (λ (x y : List _). x ++ y) d.posted (posts ∙ sym (append-nil (posted_by x12 (Came k.filed.bytes k.filed.reply))))
-          ∙ sym (flat_map-append (posted_by x12) (items_of s) (Came k.filed.bytes k.filed.reply ∷ [])) ∙ ap (postings x12) (sym items_then);
+          ap₂ (λ (x y : List _). x ++ y) d.posted (posts ∙ sym (append-nil (posted_by x12 (Came (edition_of s) k.filed.bytes k.filed.reply))))
+          ∙ sym (flat_map-append (posted_by x12) (items_of s) (Came (edition_of s) k.filed.bytes k.filed.reply ∷ [])) ∙ ap (postings x12) (sym items_then);
     }

@@ -18,9 +18,10 @@ use Rattle.x12_outbound.specs.Fate.{ended}
 use Rattle.x12_outbound.specs.FirstEvidence.{first_about, fate_by_first}
 use Rattle.x12_outbound.specs.Settling.{Fates, settled_fates}
 use Rattle.x12_outbound.proofs.FirstEvidenceLemmas.{fate_of_each}
+use Rattle.x12_profile.specs.declared.edition.Edition.{Edition}
 use Rattle.x12_profile.specs.Interchange.{Bytes, PlaceOfSet, PlacedEvidence, is_place}
 use Rattle.x12_profile.specs.Reading.{answers_in}
-use Rattle.x12_profile.specs.X12.{x12, submission_in_bytes, told_by_piece as told_by_piece, is_acceptance}
+use Rattle.x12_profile.specs.X12.{x12, submission_in_bytes, told_by_piece as told_by_piece}
 use Rattle.x12_profile.proofs.FieldLemmas as field
 use Rattle.x12_acks.proofs.ReplyGroupLemmas.{same_party_itself}
 use Rattle.x12_station.specs.History.{Item, Came, submissions, first_told, told, told_in, fate_in}
@@ -38,12 +39,12 @@ fate_then Rejected later = Rejected
 
 pub told_more : (k : PlaceOfSet) (es more : List PlacedEvidence) → first_told k (es ++ more) ≡ fate_then (first_told k es) (first_told k more)
 told_more k [] more = refl
-told_more k (e ∷ es) more = by (is_place k e.place) e.accepts (told_more k es more)
+told_more k (e ∷ es) more = by (is_place k e.place) e.fate (told_more k es more)
   where
-    by : (t a : Bool) → first_told k (es ++ more) ≡ fate_then (first_told k es) (first_told k more)
-        → (if t then (if a then Accepted else Rejected) else first_told k (es ++ more)) ≡ fate_then (if t then (if a then Accepted else Rejected) else first_told k es) (first_told k more)
-    by true true is = refl
-    by true false is = refl
+    by : (t : Bool) (a : FinalFate) → first_told k (es ++ more) ≡ fate_then (first_told k es) (first_told k more)
+        → (if t then ended a else first_told k (es ++ more)) ≡ fate_then (if t then ended a else first_told k es) (first_told k more)
+    by true accepted is = refl
+    by true rejected is = refl
     by false a is = is
 
 -- the fate that is told first, if one is
@@ -77,12 +78,12 @@ pub first_told_is : (x : Submission) (k : TransactionSetKey) (es : List Piece) �
     → first_told (place_of_key k) (flat_map told_by_piece es) ≡ as_told (first_about k es)
 first_told_is x k [] own icn sender = refl
 first_told_is x k (tells key fate ∷ es) own icn sender =
-    ap (λ b. if b then (if is_acceptance fate then Accepted else Rejected) else first_told (place_of_key k) (flat_map told_by_piece es))
+    ap (λ b. if b then ended fate else first_told (place_of_key k) (flat_map told_by_piece es))
     (ap₂ (λ a b. a && b) (flipped k.group key.group) (flipped k.set key.set) ∙ sym (at_its_place x key k own.0 icn sender))
     ∙ by (is_same_key key k) fate (first_told_is x k es own.1 icn sender)
   where
     by : (b : Bool) (fate : FinalFate) → first_told (place_of_key k) (flat_map told_by_piece es) ≡ as_told (first_about k es)
-        → (if b then (if is_acceptance fate then Accepted else Rejected) else first_told (place_of_key k) (flat_map told_by_piece es)) ≡ as_told (if b then Some fate else first_about k es)
+        → (if b then ended fate else first_told (place_of_key k) (flat_map told_by_piece es)) ≡ as_told (if b then Some fate else first_about k es)
     by true accepted more = refl
     by true rejected more = refl
     by false fate more = more
@@ -91,22 +92,22 @@ first_told_is x k (unmatched ∷ es) own icn sender = first_told_is x k es own.1
 -- The history with one arrival more.
 
 -- the evidence that an arrival brings for all that was submitted; none where it is refused
-abbrev pub brought : Party → List Party → List Item → Bytes → List Piece
-brought me hubs items b = if x12.refuses me b then [] else x12.pieces hubs (submissions items) b
+abbrev pub brought : Edition → Party → List Party → List Item → Bytes → List Piece
+brought ed me hubs items b = if x12.refuses ed me b then [] else x12.pieces ed hubs (submissions items) b
 
-pub pieces_are : (hubs : List Party) (xs : List Bytes) (b : Bytes) → x12.pieces hubs xs b ≡ evidence_of hubs (flat_map submission_in_bytes xs) (x12.sender b) (answers_in b)
+pub pieces_are : (ed : Edition) (hubs : List Party) (xs : List Bytes) (b : Bytes) → x12.pieces ed hubs xs b ≡ evidence_of hubs (flat_map submission_in_bytes xs) (x12.sender b) (answers_in b)
 unfolding x12
-pieces_are hubs xs b = refl
+pieces_are ed hubs xs b = refl
 
-module _ (me : Party) (hubs : List Party) (items : List Item) (b : Bytes) (r : Option Bytes) where
+module _ (ed : Edition) (me : Party) (hubs : List Party) (items : List Item) (b : Bytes) (r : Option Bytes) where
   abbrev now : List Item
-  now = items ++ Came b r ∷ []
+  now = items ++ Came ed b r ∷ []
 
   -- the fate after the arrival, by what it tells
-  fate_now : (x : Bytes) (k : PlaceOfSet) → Contains (submissions items) x → fate_in x12 me hubs now x k ≡ fate_then (fate_in x12 me hubs items x k) (first_told k (told x12 me hubs x b))
+  fate_now : (x : Bytes) (k : PlaceOfSet) → Contains (submissions items) x → fate_in x12 me hubs now x k ≡ fate_then (fate_in x12 me hubs items x k) (first_told k (told x12 me hubs x (Came ed b r)))
   fate_now x k at =
-      ap (first_told k) (told_append x12 me hubs items (Came b r ∷ []) x (in_submissions items x at) ∙ ap (λ l. told_in x12 me hubs items x ++ l) (append-nil (told x12 me hubs x b)))
-      ∙ told_more k (told_in x12 me hubs items x) (told x12 me hubs x b)
+      ap (first_told k) (told_append x12 me hubs items (Came ed b r ∷ []) x (in_submissions items x at) ∙ ap (λ l. told_in x12 me hubs items x ++ l) (append-nil (told x12 me hubs x (Came ed b r))))
+      ∙ told_more k (told_in x12 me hubs items x) (told x12 me hubs x (Came ed b r))
 
   told_nothing : (f : Fate) → fate_then f Pending ≡ f
   told_nothing Pending = refl
@@ -117,22 +118,22 @@ module _ (me : Party) (hubs : List Party) (items : List Item) (b : Bytes) (r : O
   pub fate_after : (fates : Fates) (x : Bytes) (e : Submission) (k : TransactionSetKey)
       → SubmissionsRise (flat_map submission_in_bytes (submissions items)) → Contains (submissions items) x → submission_in_bytes x ≡ e ∷ []
       → k.icn ≡ e.icn → k.sender ≡ e.sender → fates k ≡ Some (fate_in x12 me hubs items x (place_of_key k))
-      → settled_fates fates (brought me hubs items b) k ≡ Some (fate_in x12 me hubs now x (place_of_key k))
+      → settled_fates fates (brought ed me hubs items b) k ≡ Some (fate_in x12 me hubs now x (place_of_key k))
   unfolding settled_fates
-  fate_after fates x e k rise at is icn sender fare = by (x12.refuses me b) refl
+  fate_after fates x e k rise at is icn sender fare = by (x12.refuses ed me b) refl
     where
       among : Contains (flat_map submission_in_bytes (submissions items)) e
       among = flat_map_contains submission_in_bytes (submissions items) x e at (subst (λ l. Contains l e) (sym is) (contains_head e []))
 
-      tells_it : first_told (place_of_key k) (x12.evidence hubs b x) ≡ as_told (first_about k (evidence_of hubs (e ∷ []) (x12.sender b) (answers_in b)))
+      tells_it : first_told (place_of_key k) (x12.evidence ed hubs b x) ≡ as_told (first_about k (evidence_of hubs (e ∷ []) (x12.sender b) (answers_in b)))
       tells_it =
-          ap (first_told (place_of_key k)) (field.evidence_is hubs b x ∙ ap (λ l. flat_map told_by_piece (evidence_of hubs (l ++ []) (x12.sender b) (answers_in b))) is)
+          ap (first_told (place_of_key k)) (field.evidence_is ed hubs b x ∙ ap (λ l. flat_map told_by_piece (evidence_of hubs (l ++ []) (x12.sender b) (answers_in b))) is)
           ∙ first_told_is e k (evidence_of hubs (e ∷ []) (x12.sender b) (answers_in b)) (evidence_of_each.alone hubs (x12.sender b) e (answers_in b)) icn sender
 
-      by : (t : Bool) → x12.refuses me b ≡ t → settled_fates fates (if x12.refuses me b then [] else x12.pieces hubs (submissions items) b) k ≡ Some (fate_in x12 me hubs now x (place_of_key k))
+      by : (t : Bool) → x12.refuses ed me b ≡ t → settled_fates fates (if x12.refuses ed me b then [] else x12.pieces ed hubs (submissions items) b) k ≡ Some (fate_in x12 me hubs now x (place_of_key k))
       by true no_one = rw no_one (fare ∙ ap Some (sym (fate_now x (place_of_key k) at ∙ rw no_one (told_nothing (fate_in x12 me hubs items x (place_of_key k))))))
       by false taken =
-          rw taken (ap (λ es. settled_fates fates es k) (pieces_are hubs (submissions items) b)
+          rw taken (ap (λ es. settled_fates fates es k) (pieces_are ed hubs (submissions items) b)
           ∙ fate_of_each evidence_of_each fates hubs (x12.sender b) (flat_map submission_in_bytes (submissions items)) e (answers_in b) k rise among icn
           ∙ ap (fate_by_first (first_about k (evidence_of hubs (e ∷ []) (x12.sender b) (answers_in b)))) fare
           ∙ settled_then (first_about k (evidence_of hubs (e ∷ []) (x12.sender b) (answers_in b))) (fate_in x12 me hubs items x (place_of_key k))

@@ -7,7 +7,6 @@ use Rattle.x12_envelopes.specs.declared.header.Header.{Header}
 use Rattle.x12_envelopes.specs.declared.moment.Moment.{Moment}
 use Rattle.x12_envelopes.specs.declared.party.Party.{Party}
 use Rattle.x12_envelopes.specs.Header.{header_of}
-use Rattle.x12_judge.specs.Verdict.{judgement_of}
 use Rattle.x12_acks.specs.Reply.{due_reply}
 use Rattle.x12_inbound.specs.Accepted.{PostsWhatIsAccepted}
 use Rattle.x12_inbound.specs.Arrival.{Filing, ArePostingsOf, filing_of, arrival}
@@ -20,7 +19,7 @@ use Rattle.x12_outbound.specs.Settling.{settled_fates, targets_of, findings}
 use Rattle.x12_profile.specs.Interchange.{Bytes, book_for, is_within}
 use Rattle.x12_profile.specs.Laws.{Laws}
 use Rattle.x12_profile.specs.Reading.{answers_in}
-use Rattle.x12_profile.specs.X12.{x12, is_refused, needs_of}
+use Rattle.x12_profile.specs.X12.{x12, is_refused, judged_by, needs_of}
 use Rattle.x12_station.specs.Closed.{heard}
 use Rattle.x12_station.specs.Counts.{arrival_counts, count_arrival}
 use Rattle.x12_station.specs.Durable.{items_of, IsHistoryOf}
@@ -34,7 +33,7 @@ use Rattle.x12_station.specs.Station.{Station}
 use Rattle.x12_station.specs.Seen.{sending_of, station_of}
 use Rattle.x12_station.specs.StationStep.{filed_now}
 use Rattle.x12_station.specs.Stored.{Stored, open_entries, filed_in}
-use Rattle.x12_station.proofs.ArrivedLemmas.{history_fates, items_now}
+use Rattle.x12_station.proofs.ArrivedLemmas.{edition_of, history_fates, items_now}
 use Rattle.x12_station.proofs.DurableFiledLemmas.{durable_filed, entries_filed_are, filed_with, items_then}
 use Rattle.x12_station.proofs.FateLemmas.{brought}
 use Rattle.x12_station.proofs.HearingLemmas.{same_unclear}
@@ -44,26 +43,26 @@ use Rattle.x12_station.proofs.StepLemmas.{refused_is, brought_is, book_later, fi
 use Rattle.x12_station.proofs.TargetLemmas.{targets_by}
 
 module _ (v : OutboundLedger) (counts : Counts) (s : Stored) (d : IsHistoryOf v.me v.hubs s) (near_are : map (λ r. r.interchange) v.rows ≡ open_entries s)
-    (b : Bytes) (h : Header) (known : header_of b ≡ Ok h) (p : Plan) (is_heard : IsHeard v s h.sender (heard (judgement_of v.me s.agreements h b).verdict b) p) where
+    (b : Bytes) (h : Header) (known : header_of b ≡ Ok h) (p : Plan) (is_heard : IsHeard v s h.sender (heard (judged_by (edition_of s) v.me s.agreements h b).verdict b) p) where
   abbrev items : List Item
   items = items_of s
 
   -- the plan's evidence is what the arrival brings
-  pub evidence_brought : evidence_in p.pieces ≡ brought v.me v.hubs items b
+  pub evidence_brought : evidence_in p.pieces ≡ brought (edition_of s) v.me v.hubs items b
   evidence_brought =
-      pieces_told v is_heard.closed s d near_are is_heard.me h.sender (heard (judgement_of v.me s.agreements h b).verdict b) is_heard.found p.pieces is_heard.evidence is_heard.pieces
-      ∙ sym (brought_is v.me s.agreements b h known v.hubs items)
+      pieces_told v is_heard.closed s d near_are is_heard.me h.sender (heard (judged_by (edition_of s) v.me s.agreements h b).verdict b) is_heard.found p.pieces is_heard.evidence is_heard.pieces
+      ∙ sym (brought_is (edition_of s) v.me s.agreements b h known v.hubs items)
 
   -- and its targets are what the history settles
-  pub targets_brought : targets_of p.pieces ≡ targets_by (history_fates v.me v.hubs s d) (brought v.me v.hubs items b)
+  pub targets_brought : targets_of p.pieces ≡ targets_by (history_fates v.me v.hubs s d) (brought (edition_of s) v.me v.hubs items b)
   targets_brought =
-      targets_told v is_heard.closed s d near_are is_heard.me h.sender (heard (judgement_of v.me s.agreements h b).verdict b) is_heard.found p.pieces is_heard.evidence is_heard.pieces
-      ∙ ap (targets_by (history_fates v.me v.hubs s d)) (sym (brought_is v.me s.agreements b h known v.hubs items))
+      targets_told v is_heard.closed s d near_are is_heard.me h.sender (heard (judged_by (edition_of s) v.me s.agreements h b).verdict b) is_heard.found p.pieces is_heard.evidence is_heard.pieces
+      ∙ ap (targets_by (history_fates v.me v.hubs s d)) (sym (brought_is (edition_of s) v.me s.agreements b h known v.hubs items))
 
-  findings_brought : findings_in p.pieces ≡ findings (own_fates x12 v.me v.hubs items) (brought v.me v.hubs items b)
+  findings_brought : findings_in p.pieces ≡ findings (own_fates x12 v.me v.hubs items) (brought (edition_of s) v.me v.hubs items b)
   findings_brought =
-      findings_told v is_heard.closed s d near_are is_heard.me h.sender (heard (judgement_of v.me s.agreements h b).verdict b) is_heard.found p.pieces is_heard.evidence is_heard.pieces
-      ∙ ap (findings (own_fates x12 v.me v.hubs items)) (sym (brought_is v.me s.agreements b h known v.hubs items))
+      findings_told v is_heard.closed s d near_are is_heard.me h.sender (heard (judged_by (edition_of s) v.me s.agreements h b).verdict b) is_heard.found p.pieces is_heard.evidence is_heard.pieces
+      ∙ ap (findings (own_fates x12 v.me v.hubs items)) (sym (brought_is (edition_of s) v.me s.agreements b h known v.hubs items))
 
   unclear_read : unclear_answers (answers_in b) ≡ x12.unclear b
   unfolding unclear_answers x12
@@ -73,12 +72,12 @@ module _ (v : OutboundLedger) (counts : Counts) (s : Stored) (d : IsHistoryOf v.
   unfolding unclear_answers
   no_unclear = refl
 
-  unclear_is : p.unclear ≡ (if x12.refuses v.me b then 0 else x12.unclear b)
-  unclear_is = is_heard.unclear ∙ by (x12.refuses v.me b) refl
+  unclear_is : p.unclear ≡ (if x12.refuses (edition_of s) v.me b then 0 else x12.unclear b)
+  unclear_is = is_heard.unclear ∙ by (x12.refuses (edition_of s) v.me b) refl
     where
-      by : (t : Bool) → x12.refuses v.me b ≡ t → unclear_answers (if is_refused (judgement_of v.me s.agreements h b).verdict then [] else answers_in b) ≡ (if x12.refuses v.me b then 0 else x12.unclear b)
-      by true is = rw (sym (refused_is v.me s.agreements b h known) ∙ is, is) no_unclear
-      by false is = rw (sym (refused_is v.me s.agreements b h known) ∙ is, is) unclear_read
+      by : (t : Bool) → x12.refuses (edition_of s) v.me b ≡ t → unclear_answers (if is_refused (judged_by (edition_of s) v.me s.agreements h b).verdict then [] else answers_in b) ≡ (if x12.refuses (edition_of s) v.me b then 0 else x12.unclear b)
+      by true is = rw (sym (refused_is (edition_of s) v.me s.agreements b h known) ∙ is, is) no_unclear
+      by false is = rw (sym (refused_is (edition_of s) v.me s.agreements b h known) ∙ is, is) unclear_read
 
   at_most : (n : ℕ) → n ≤ 2 ^ 64 - 1 → min (n + 0) (2 ^ 64 - 1) ≡ n
   at_most n le = omega (arith, le)
@@ -98,11 +97,11 @@ module _ (v : OutboundLedger) (counts : Counts) (s : Stored) (d : IsHistoryOf v.
   no_findings = refl
 
   -- what is counted
-  pub counts_are : AreCounts counts → counts.unclear ≤ 2 ^ 64 - 1 → counts_of_both counts (with_pieces (only_unclear p.unclear) (findings_in p.pieces)) ≡ count_arrival x12 v.me v.hubs items b counts
-  counts_are are few_unclear = ap₂ (λ u fs. counts_of_both counts (with_pieces (only_unclear u) fs)) unclear_is findings_brought ∙ by (x12.refuses v.me b) refl
+  pub counts_are : AreCounts counts → counts.unclear ≤ 2 ^ 64 - 1 → counts_of_both counts (with_pieces (only_unclear p.unclear) (findings_in p.pieces)) ≡ count_arrival x12 (edition_of s) v.me v.hubs items b counts
+  counts_are are few_unclear = ap₂ (λ u fs. counts_of_both counts (with_pieces (only_unclear u) fs)) unclear_is findings_brought ∙ by (x12.refuses (edition_of s) v.me b) refl
     where
-      by : (t : Bool) → x12.refuses v.me b ≡ t
-          → counts_of_both counts (with_pieces (only_unclear (if x12.refuses v.me b then 0 else x12.unclear b)) (findings (own_fates x12 v.me v.hubs items) (brought v.me v.hubs items b))) ≡ count_arrival x12 v.me v.hubs items b counts
+      by : (t : Bool) → x12.refuses (edition_of s) v.me b ≡ t
+          → counts_of_both counts (with_pieces (only_unclear (if x12.refuses (edition_of s) v.me b then 0 else x12.unclear b)) (findings (own_fates x12 v.me v.hubs items) (brought (edition_of s) v.me v.hubs items b))) ≡ count_arrival x12 (edition_of s) v.me v.hubs items b counts
       by true is = rw is (ap (λ fs. counts_of_both counts (with_pieces (only_unclear 0) fs)) no_findings ∙ nothing_more are few_unclear)
       by false is = rw is refl
 
@@ -111,20 +110,20 @@ module _ (v : OutboundLedger) (counts : Counts) (s : Stored) (d : IsHistoryOf v.
   no_pieces = refl
 
   -- and what is told of it
-  pub told_are : with_pieces (only_unclear p.unclear) (findings_in p.pieces) ≡ (if x12.refuses v.me b then only_unclear 0 else arrival_counts x12 v.me v.hubs items b)
-  told_are = ap₂ (λ u fs. with_pieces (only_unclear u) fs) unclear_is findings_brought ∙ by (x12.refuses v.me b) refl
+  pub told_are : with_pieces (only_unclear p.unclear) (findings_in p.pieces) ≡ (if x12.refuses (edition_of s) v.me b then only_unclear 0 else arrival_counts x12 (edition_of s) v.me v.hubs items b)
+  told_are = ap₂ (λ u fs. with_pieces (only_unclear u) fs) unclear_is findings_brought ∙ by (x12.refuses (edition_of s) v.me b) refl
     where
-      by : (t : Bool) → x12.refuses v.me b ≡ t
-          → with_pieces (only_unclear (if x12.refuses v.me b then 0 else x12.unclear b)) (findings (own_fates x12 v.me v.hubs items) (brought v.me v.hubs items b)) ≡ (if x12.refuses v.me b then only_unclear 0 else arrival_counts x12 v.me v.hubs items b)
+      by : (t : Bool) → x12.refuses (edition_of s) v.me b ≡ t
+          → with_pieces (only_unclear (if x12.refuses (edition_of s) v.me b then 0 else x12.unclear b)) (findings (own_fates x12 v.me v.hubs items) (brought (edition_of s) v.me v.hubs items b)) ≡ (if x12.refuses (edition_of s) v.me b then only_unclear 0 else arrival_counts x12 (edition_of s) v.me v.hubs items b)
       by true is = rw is (ap (λ fs. with_pieces (only_unclear 0) fs) no_findings ∙ no_pieces)
       by false is = rw is refl
 
   -- The commit, with the reply that is due under the next numbers.
-  module _ (book : Numbers) (book_is : book ≡ book_for s.book (needs_of v.me s.agreements b h)) (within : IsTrue (is_within book)) (at : Moment) (r : Option Bytes)
-      (r_is : r ≡ due_reply h (judgement_of v.me s.agreements h b) v.me at book.interchange book.group) (laws : Laws x12) (posts : PostsWhatIsAccepted) (plain : IsTrue (x12.is_plain v.me))
+  module _ (book : Numbers) (book_is : book ≡ book_for s.book (needs_of (edition_of s) v.me s.agreements b h)) (within : IsTrue (is_within book)) (at : Moment) (r : Option Bytes)
+      (r_is : r ≡ due_reply h (judged_by (edition_of s) v.me s.agreements h b) v.me at book.interchange book.group) (laws : Laws x12) (posts : PostsWhatIsAccepted) (plain : IsTrue (x12.is_plain v.me))
       (few : s.seq + 1 ≤ 2 ^ 63 - 1) (new : filed_in s h.sender h.icn ≡ None) where
     abbrev pub kept : Filing
-    kept = filing_of (arrival h.sender h.icn b) (judgement_of v.me s.agreements h b) r
+    kept = filing_of (arrival h.sender h.icn b) (judged_by (edition_of s) v.me s.agreements h b) r
 
     -- the records once the plan is committed
     abbrev pub after : Stored
@@ -135,9 +134,9 @@ module _ (v : OutboundLedger) (counts : Counts) (s : Stored) (d : IsHistoryOf v.
 
     pub durable_after : ArePostingsOf kept.filed kept.postings → IsHistoryOf v.me v.hubs after
     durable_after theirs = subst (IsHistoryOf v.me v.hubs) (sym after_is)
-        (durable_filed v.me v.hubs s d kept book (book_later v.me s.agreements b h known s.book book book_is at r r_is) few theirs new
-        (filing_rightly v.me s.agreements b h known s.book book book_is at r r_is) (filing_answered v.me s.agreements b h known s.book book book_is at r r_is)
-        (filing_posts v.me s.agreements b h known s.book book book_is at r r_is laws posts plain within))
+        (durable_filed v.me v.hubs s d kept book (book_later (edition_of s) v.me s.agreements b h known s.book book book_is at r r_is) few theirs new
+        (filing_rightly (edition_of s) v.me s.agreements b h known s.book book book_is at r r_is) (filing_answered (edition_of s) v.me s.agreements b h known s.book book book_is at r r_is)
+        (filing_posts (edition_of s) v.me s.agreements b h known s.book book book_is at r r_is laws posts plain within))
 
     -- they hold the station that the definition has then
     pub holds_after : HoldsState (filed_now x12 (station_of v counts s) b r book) after
@@ -145,13 +144,13 @@ module _ (v : OutboundLedger) (counts : Counts) (s : Stored) (d : IsHistoryOf v.
 
     -- the ledger once it settled
     module _ (w : OutboundLedger) (held : HoldsWhatIsOpen v w (settled_fates (fates v) (evidence_in p.pieces))) (none_out : NoneIsOut w) where
-      abbrev holds : HoldsWhatIsOpen v w (settled_fates (fates v) (brought v.me v.hubs items b))
+      abbrev holds : HoldsWhatIsOpen v w (settled_fates (fates v) (brought (edition_of s) v.me v.hubs items b))
       holds = subst (λ es. HoldsWhatIsOpen v w (settled_fates (fates v) es)) evidence_brought held
 
       pub open_after : map (λ r. r.interchange) w.rows ≡ open_entries after
       open_after = left_open v w s d near_are b r holds none_out ∙ sym (ap open_entries after_is ∙ ap (filter row_is_open) (entries_filed_are v.me v.hubs s d kept book))
 
-      pub state_after : (more : Counts) → more ≡ count_arrival x12 v.me v.hubs items b counts → station_of w more after ≡ filed_now x12 (station_of v counts s) b r book
+      pub state_after : (more : Counts) → more ≡ count_arrival x12 (edition_of s) v.me v.hubs items b counts → station_of w more after ≡ filed_now x12 (station_of v counts s) b r book
       state_after more more_is =
           ap (station_of w more) after_is
           ∙ ap₂ (λ (m : Party) (hs : List Party). station_by m hs (items_of (filed_with v.me v.hubs s d kept book)) w.tick (map sending_of w.rows) more) held.me held.hubs

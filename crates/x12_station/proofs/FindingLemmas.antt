@@ -6,6 +6,8 @@ use Rattle.x12_inbound.specs.declared.filing.Filed.{Filed}
 use Rattle.x12_inbound.specs.Filing.{FiledInterchange, filed_under, reply_bytes}
 use Rattle.x12_outbound.proofs.SearchLemmas.{Found}
 use Rattle.x12_station.specs.declared.arrivals.NumberedArrival.{NumberedArrival}
+use Rattle.x12_profile.specs.Edition.{edition_at}
+use Rattle.x12_station.specs.Durable.{item_of_arrival}
 use Rattle.x12_station.specs.History.{Item, Submitted, Came}
 use Rattle.x12_station.specs.Memory.{ArrivalKey, NumberedRow, SeqsRise, arrival_view}
 use Rattle.x12_station.specs.Stored.{Stored, StoredSubmission, StoredArrival, AreNumbered}
@@ -34,16 +36,13 @@ pub submissions_rise : (s : Stored) (ns : List NumberedRow) → s.submitted ≡ 
 submissions_rise s ns same numbered = pairs_from_map row_in (λ r q. r.seq < q.seq) ns (subst (λ rs. AllPairs (λ r q. r.seq < q.seq) rs) same numbered.submitted)
 
 -- an arrival as the history has it
-abbrev came_of : StoredArrival → Item
-came_of r = Came r.filed.bytes r.filed.reply
-
 module _ (es : List (ArrivalKey × NumberedArrival)) (seq i : ℕ) (there : find (λ (r : StoredArrival). r.seq == seq) (map arrival_view es) ≡ slice_get (map arrival_view es) i) where
   -- the arrival at the index, copied
   pub arrived_found : (e : ArrivalKey × NumberedArrival) (f : Filed) → slice_get es i ≡ Some e → ((p : Party) (n : ℕ) → filed_under p n f ≡ filed_under p n e.1.filed)
-      → Some (Came f.bytes.items (reply_bytes f.reply)) ≡ option_map came_of (find (λ r. r.seq == seq) (map arrival_view es))
+      → Some (Came (edition_at seq) f.bytes.items (reply_bytes f.reply)) ≡ option_map (item_of_arrival seq) (find (λ r. r.seq == seq) (map arrival_view es))
   arrived_found e f at same =
-      ap (λ (x : FiledInterchange). Some (Came x.bytes x.reply)) (same (record { qualifier = e.0.0; id = e.0.1 }) e.0.2)
-      ∙ sym (ap (option_map came_of) (there ∙ slice_get-map arrival_view es i ∙ ap (option_map arrival_view) at))
+      ap (λ (x : FiledInterchange). Some (Came (edition_at seq) x.bytes x.reply)) (same (record { qualifier = e.0.0; id = e.0.1 }) e.0.2)
+      ∙ sym (ap (option_map (item_of_arrival seq)) (there ∙ slice_get-map arrival_view es i ∙ ap (option_map arrival_view) at))
 
-  pub none_arrived : slice_get es i ≡ None → None ≡ option_map came_of (find (λ r. r.seq == seq) (map arrival_view es))
-  none_arrived past = sym (ap (option_map came_of) (there ∙ slice_get-map arrival_view es i ∙ ap (option_map arrival_view) past))
+  pub none_arrived : slice_get es i ≡ None → None ≡ option_map (item_of_arrival seq) (find (λ r. r.seq == seq) (map arrival_view es))
+  none_arrived past = sym (ap (option_map (item_of_arrival seq)) (there ∙ slice_get-map arrival_view es i ∙ ap (option_map arrival_view) past))

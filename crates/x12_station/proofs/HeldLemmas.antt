@@ -23,7 +23,7 @@ use Rattle.x12_acks.proofs.ReplyGroupLemmas.{same_party_itself}
 use Rattle.x12_profile.specs.Interchange.{Bytes}
 use Rattle.x12_station.specs.Durable.{items_of, fared_entries, IsHistoryOf, IsOwnSubmission}
 use Rattle.x12_station.specs.Stored.{Stored, entries, open_entries}
-use Rattle.x12_station.proofs.ArrivedLemmas.{all_rise, history_fates, all_stay, cell_now, items_now, own_now}
+use Rattle.x12_station.proofs.ArrivedLemmas.{edition_of, all_rise, history_fates, all_stay, cell_now, items_now, own_now}
 use Rattle.x12_station.proofs.CellLemmas.{Cell, cells_of, entry_by, cell_is_pending, keyed_by, keys_by, open_by, map_same_at, any_same_at}
 use Rattle.x12_outbound.specs.FirstEvidence.{first_about}
 use Rattle.x12_station.proofs.FateLemmas.{brought, fate_then, as_told}
@@ -88,7 +88,7 @@ pending_before Accepted g is = is
 pending_before Rejected g is = is
 
 module _ (v w : OutboundLedger) (s : Stored) (d : IsHistoryOf v.me v.hubs s) (near_are : map (λ r. r.interchange) v.rows ≡ open_entries s) (b : Bytes) (r : Option Bytes)
-    (held : HoldsWhatIsOpen v w (settled_fates (fates v) (brought v.me v.hubs (items_of s) b))) (none_out : NoneIsOut w) where
+    (held : HoldsWhatIsOpen v w (settled_fates (fates v) (brought (edition_of s) v.me v.hubs (items_of s) b))) (none_out : NoneIsOut w) where
   abbrev all : List Submission
   all = all_submitted (items_of s)
 
@@ -108,7 +108,7 @@ module _ (v w : OutboundLedger) (s : Stored) (d : IsHistoryOf v.me v.hubs s) (ne
   entry_now e = entry_by (fate_then_at e) e
 
   abbrev fare : Fates
-  fare = settled_fates (fates v) (brought v.me v.hubs (items_of s) b)
+  fare = settled_fates (fates v) (brought (edition_of s) v.me v.hubs (items_of s) b)
 
   abbrev key : Submission → Cell → TransactionSetKey
   key e c = key_in v.me v.hubs (items_of s) d.own (all_rise v.me v.hubs s d) e c
@@ -153,10 +153,10 @@ module _ (v w : OutboundLedger) (s : Stored) (d : IsHistoryOf v.me v.hubs s) (ne
       let c = found.0 in
       let fates_before = history_fates v.me v.hubs s d in
       let was = cell_fares_in v.me v.hubs (items_of s) d.own (all_rise v.me v.hubs s d) (fared_entries v.me v.hubs (items_of s)) (all_of_all v.me v.hubs (items_of s) d.own (all_rise v.me v.hubs s d)) e at (all_hold v.me v.hubs (items_of s) d.own (all_rise v.me v.hubs s d) e at) c found.1 in
-      let now_is = told_is_settled fates_before (brought v.me v.hubs (items_of s) b) (key e c) (fate_at v.me v.hubs (items_of s) e c.group c.set) (fate_then_at e c.group c.set) was (cell_now v.me v.hubs s d b r e c at fates_before was) in
+      let now_is = told_is_settled fates_before (brought (edition_of s) v.me v.hubs (items_of s) b) (key e c) (fate_at v.me v.hubs (items_of s) e c.group c.set) (fate_then_at e c.group c.set) was (cell_now v.me v.hubs s d b r e c at fates_before was) in
       open_by (fate_at v.me v.hubs (items_of s) e) e
       ∙ any_holds (cell_is_pending (fate_at v.me v.hubs (items_of s) e)) (cells_of e.groups) c found.1
-      (pending_before (fate_at v.me v.hubs (items_of s) e c.group c.set) (as_told (first_about (key e c) (brought v.me v.hubs (items_of s) b))) (ap is_pending now_is ∙ found.2))
+      (pending_before (fate_at v.me v.hubs (items_of s) e c.group c.set) (as_told (first_about (key e c) (brought (edition_of s) v.me v.hubs (items_of s) b))) (ap is_pending now_is ∙ found.2))
 
   scheduled_sent : (u : OutboundLedger) → map (λ (q : Submission × Schedule). q.0) (scheduled u) ≡ ledger_submissions u
   unfolding scheduled

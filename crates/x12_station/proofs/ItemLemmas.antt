@@ -21,8 +21,9 @@ use Rattle.x12_outbound.specs.Entry.{InterchangeRow}
 use Rattle.x12_inbound.specs.Arrival.{Filing}
 use Rattle.x12_inbound.specs.Order.{interchange}
 use Rattle.x12_inbound.specs.Register.{found_in}
+use Rattle.x12_profile.specs.Edition.{edition_at}
 use Rattle.x12_profile.specs.X12.{x12}
-use Rattle.x12_station.specs.Durable.{IsFiledRightly, item_at, items_of}
+use Rattle.x12_station.specs.Durable.{IsFiledRightly, item_at, item_of_arrival, items_of}
 use Rattle.x12_station.specs.History.{Item, Submitted, Came, KeptArrival, submissions, arrivals, filed}
 use Rattle.x12_station.specs.Plan.{Submits, Files, Agrees, TakesNumbers, stored_after}
 use Rattle.x12_station.specs.Stored.{Stored, StoredSubmission, StoredArrival, AreNumbered, seqs, filed_in, row_of_entry}
@@ -64,33 +65,33 @@ arrived_within s numbered =
 abbrev pub came : List Item → List KeptArrival
 came [] = []
 came (Submitted x ∷ items) = came items
-came (Came b r ∷ items) = record { body = b; reply = r } ∷ came items
+came (Came ed b r ∷ items) = record { body = b; reply = r } ∷ came items
 
 pub submissions-append : (items more : List Item) → submissions (items ++ more) ≡ submissions items ++ submissions more
 submissions-append [] more = refl
 submissions-append (Submitted x ∷ items) more = ap (λ l. x ∷ l) (submissions-append items more)
-submissions-append (Came b r ∷ items) more = submissions-append items more
+submissions-append (Came ed b r ∷ items) more = submissions-append items more
 
 pub came-append : (items more : List Item) → came (items ++ more) ≡ came items ++ came more
 came-append [] more = refl
 came-append (Submitted x ∷ items) more = came-append items more
-came-append (Came b r ∷ items) more = ap (λ l. record { body = b; reply = r } ∷ l) (came-append items more)
+came-append (Came ed b r ∷ items) more = ap (λ l. record { body = b; reply = r } ∷ l) (came-append items more)
 
 pub arrivals_came : (items : List Item) → arrivals items ≡ map (λ f. f.body) (came items)
 arrivals_came [] = refl
 arrivals_came (Submitted x ∷ items) = arrivals_came items
-arrivals_came (Came b r ∷ items) = ap (λ l. b ∷ l) (arrivals_came items)
+arrivals_came (Came ed b r ∷ items) = ap (λ l. b ∷ l) (arrivals_came items)
 
 both_parts : (items : List Item) → length items ≡ length (submissions items) + length (came items)
 both_parts [] = refl
 both_parts (Submitted x ∷ items) = let rest = both_parts items in omega arith
-both_parts (Came b r ∷ items) = let rest = both_parts items in omega arith
+both_parts (Came ed b r ∷ items) = let rest = both_parts items in omega arith
 
 -- what is filed under a partner's number, among what came
 pub filed_came : (items : List Item) (partner : Party) (n : ℕ) → filed x12 items partner n ≡ find (λ f. is_same_party (x12.sender f.body) partner && (x12.number f.body == n)) (came items)
 filed_came [] partner n = refl
 filed_came (Submitted x ∷ items) partner n = filed_came items partner n
-filed_came (Came b r ∷ items) partner n = by (is_same_party (x12.sender b) partner && (x12.number b == n)) (filed_came items partner n)
+filed_came (Came ed b r ∷ items) partner n = by (is_same_party (x12.sender b) partner && (x12.number b == n)) (filed_came items partner n)
   where
     by : (t : Bool) → filed x12 items partner n ≡ find (λ f. is_same_party (x12.sender f.body) partner && (x12.number f.body == n)) (came items)
         → (if t then Some (record { body = b; reply = r }) else filed x12 items partner n)
@@ -104,35 +105,35 @@ filed_came (Came b r ∷ items) partner n = by (is_same_party (x12.sender b) par
 abbrev pub filed_of_row : StoredArrival → KeptArrival
 filed_of_row r = record { body = r.filed.bytes; reply = r.filed.reply }
 
-abbrev item_of : Option StoredSubmission → Option StoredArrival → Option Item
-item_of a b = option_or (option_map (λ r. Submitted r.bytes) a) (option_map (λ r. Came r.filed.bytes r.filed.reply) b)
+abbrev item_of : ℕ → Option StoredSubmission → Option StoredArrival → Option Item
+item_of n a b = option_or (option_map (λ r. Submitted r.bytes) a) (option_map (item_of_arrival n) b)
 
-submitted_one : (a : Option StoredSubmission) (b : Option StoredArrival) → submissions (option_to_list (item_of a b)) ≡ map (λ r. r.bytes) (option_to_list a)
-submitted_one None None = refl
-submitted_one None (Some b) = refl
-submitted_one (Some a) b = refl
+submitted_one : (n : ℕ) (a : Option StoredSubmission) (b : Option StoredArrival) → submissions (option_to_list (item_of n a b)) ≡ map (λ r. r.bytes) (option_to_list a)
+submitted_one n None None = refl
+submitted_one n None (Some b) = refl
+submitted_one n (Some a) b = refl
 
-came_one : (a : Option StoredSubmission) (b : Option StoredArrival) → (a ≡ None) ⊎ (b ≡ None) → came (option_to_list (item_of a b)) ≡ map filed_of_row (option_to_list b)
-came_one None None one = refl
-came_one None (Some b) one = refl
-came_one (Some a) None one = refl
-came_one (Some a) (Some b) (inl e) = absurd cc
-came_one (Some a) (Some b) (inr e) = absurd cc
+came_one : (n : ℕ) (a : Option StoredSubmission) (b : Option StoredArrival) → (a ≡ None) ⊎ (b ≡ None) → came (option_to_list (item_of n a b)) ≡ map filed_of_row (option_to_list b)
+came_one n None None one = refl
+came_one n None (Some b) one = refl
+came_one n (Some a) None one = refl
+came_one n (Some a) (Some b) (inl e) = absurd cc
+came_one n (Some a) (Some b) (inr e) = absurd cc
 
 submitted_each : (f : ℕ → Option StoredSubmission) (g : ℕ → Option StoredArrival) (ns : List ℕ)
-    → submissions (flat_map (λ n. option_to_list (item_of (f n) (g n))) ns) ≡ map (λ r. r.bytes) (flat_map (λ n. option_to_list (f n)) ns)
+    → submissions (flat_map (λ n. option_to_list (item_of n (f n) (g n))) ns) ≡ map (λ r. r.bytes) (flat_map (λ n. option_to_list (f n)) ns)
 submitted_each f g [] = refl
 submitted_each f g (n ∷ ns) =
-    submissions-append (option_to_list (item_of (f n) (g n))) (flat_map (λ n. option_to_list (item_of (f n) (g n))) ns)
-    ∙ ap₂ (λ a b. a ++ b) (submitted_one (f n) (g n)) (submitted_each f g ns)
+    submissions-append (option_to_list (item_of n (f n) (g n))) (flat_map (λ n. option_to_list (item_of n (f n) (g n))) ns)
+    ∙ ap₂ (λ a b. a ++ b) (submitted_one n (f n) (g n)) (submitted_each f g ns)
     ∙ sym (map-append (λ (r : StoredSubmission). r.bytes) (option_to_list (f n)) (flat_map (λ n. option_to_list (f n)) ns))
 
 came_each : (f : ℕ → Option StoredSubmission) (g : ℕ → Option StoredArrival) (ns : List ℕ) → ((n : ℕ) → (f n ≡ None) ⊎ (g n ≡ None))
-    → came (flat_map (λ n. option_to_list (item_of (f n) (g n))) ns) ≡ map filed_of_row (flat_map (λ n. option_to_list (g n)) ns)
+    → came (flat_map (λ n. option_to_list (item_of n (f n) (g n))) ns) ≡ map filed_of_row (flat_map (λ n. option_to_list (g n)) ns)
 came_each f g [] apart = refl
 came_each f g (n ∷ ns) apart =
-    came-append (option_to_list (item_of (f n) (g n))) (flat_map (λ n. option_to_list (item_of (f n) (g n))) ns)
-    ∙ ap₂ (λ a b. a ++ b) (came_one (f n) (g n) (apart n)) (came_each f g ns apart)
+    came-append (option_to_list (item_of n (f n) (g n))) (flat_map (λ n. option_to_list (item_of n (f n) (g n))) ns)
+    ∙ ap₂ (λ a b. a ++ b) (came_one n (f n) (g n) (apart n)) (came_each f g ns apart)
     ∙ sym (map-append filed_of_row (option_to_list (g n)) (flat_map (λ n. option_to_list (g n)) ns))
 
 -- No number is that of a submission and of an arrival.
@@ -247,18 +248,18 @@ pub items_submitted : (s : Stored) → AreNumbered s → (book : Numbers) (e : I
 items_submitted s numbered book e =
     let row = row_of_entry (s.seq + 1) e in
     let t = stored_after (record { book = book; seq = s.seq + 1; change = Submits e }) s in
-    items_more s t refl (λ n low. ap (λ a. item_of a (under seq_of_arrival n s.arrived)) (find_kept (λ (r : StoredSubmission). r.seq == n) s.submitted row (differs_from_less (s.seq + 1) n (omega arith))))
-    ∙ ap (λ a. items_of s ++ option_to_list (item_of a (under seq_of_arrival (s.seq + 1) s.arrived)))
+    items_more s t refl (λ n low. ap (λ a. item_of n a (under seq_of_arrival n s.arrived)) (find_kept (λ (r : StoredSubmission). r.seq == n) s.submitted row (differs_from_less (s.seq + 1) n (omega arith))))
+    ∙ ap (λ a. items_of s ++ option_to_list (item_of (s.seq + 1) a (under seq_of_arrival (s.seq + 1) s.arrived)))
     (find_pushed (λ (r : StoredSubmission). r.seq == s.seq + 1) s.submitted row (no_submission s numbered) (eq_itself (s.seq + 1)))
 
 -- an arrival adds its bytes, and the reply that is kept
 pub items_filed : (s : Stored) → AreNumbered s → (book : Numbers) (k : Filing) (settled : List (TransactionSetKey × Fate))
-    → items_of (stored_after (record { book = book; seq = s.seq + 1; change = Files k settled }) s) ≡ items_of s ++ Came k.filed.bytes k.filed.reply ∷ []
+    → items_of (stored_after (record { book = book; seq = s.seq + 1; change = Files k settled }) s) ≡ items_of s ++ Came (edition_at (s.seq + 1)) k.filed.bytes k.filed.reply ∷ []
 items_filed s numbered book k settled =
     let row : StoredArrival = record { seq = s.seq + 1; filed = k.filed } in
     let t = stored_after (record { book = book; seq = s.seq + 1; change = Files k settled }) s in
-    items_more s t refl (λ n low. ap (λ b. item_of (under seq_of_submission n s.submitted) b) (find_kept (λ (r : StoredArrival). r.seq == n) s.arrived row (differs_from_less (s.seq + 1) n (omega arith))))
-    ∙ ap₂ (λ a b. items_of s ++ option_to_list (item_of a b)) (no_submission s numbered)
+    items_more s t refl (λ n low. ap (λ b. item_of n (under seq_of_submission n s.submitted) b) (find_kept (λ (r : StoredArrival). r.seq == n) s.arrived row (differs_from_less (s.seq + 1) n (omega arith))))
+    ∙ ap₂ (λ a b. items_of s ++ option_to_list (item_of (s.seq + 1) a b)) (no_submission s numbered)
     (find_pushed (λ (r : StoredArrival). r.seq == s.seq + 1) s.arrived row (no_arrival s numbered) (eq_itself (s.seq + 1)))
 
 -- an agreement and used numbers add nothing

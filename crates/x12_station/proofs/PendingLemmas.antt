@@ -19,7 +19,7 @@ use Rattle.x12_profile.specs.Interchange.{Bytes, PlaceOfSet}
 use Rattle.x12_profile.specs.X12.{x12, submission_in_bytes}
 use Rattle.x12_profile.proofs.FieldLemmas as field
 use Rattle.x12_station.specs.Durable.{fared_set, fared_group, fared_entry, fared_entries}
-use Rattle.x12_station.specs.History.{Item, Submitted, Came, submissions, arrivals_after, first_told, told_in, fate_in}
+use Rattle.x12_station.specs.History.{Item, Submitted, Came, submissions, items_after, first_told, told_in, fate_in}
 use Rattle.x12_station.proofs.HistoryLemmas.{in_submissions, told_append}
 use Rattle.x12_station.proofs.ItemLemmas.{submissions-append}
 use Rattle.x12_station.proofs.ListLemmas.{contains_flat_map}
@@ -95,18 +95,18 @@ bytes_submitted x y = by_header x y (header_of x) refl
 
 -- The history with one submission more.
 
-no_choice : (t : Bool) (xs : List Bytes) → (if t then xs else xs) ≡ xs
+no_choice : (t : Bool) (xs : List Item) → (if t then xs else xs) ≡ xs
 no_choice true xs = refl
 no_choice false xs = refl
 
 -- nothing came after what is submitted last
-pub after_new : (items : List Item) (x : Bytes) → ((y : Bytes) → Contains (submissions items) y → y ≢ x) → arrivals_after x (items ++ Submitted x ∷ []) ≡ []
+pub after_new : (items : List Item) (x : Bytes) → ((y : Bytes) → Contains (submissions items) y → y ≢ x) → items_after x (items ++ Submitted x ∷ []) ≡ []
 after_new [] x new = no_choice (bytes_eq x x) []
 after_new (Submitted y ∷ items) x new = elim (bytes_eq_tells y x) [
   | inl same ↦ absurd (new y (contains_head y (submissions items)) same.1)
   | inr apart ↦ rw (apart.0) (after_new items x (λ z at. new z (contains_tail z y (submissions items) at)))
 ]
-after_new (Came b r ∷ items) x new = after_new items x new
+after_new (Came ed b r ∷ items) x new = after_new items x new
 
 module _ (me : Party) (hubs : List Party) (items : List Item) (x : Bytes) where
   abbrev more : List Item

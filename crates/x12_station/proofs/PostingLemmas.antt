@@ -2,7 +2,7 @@
 use Rattle.std.specs.Prelude.{◌≡◌, ℕ, ◌+◌, ◌≤◌, ◌<◌, List, [], ◌∷◌, ◌++◌, Bool, true, false, ◌&&◌, ◌==◌, not, cond, if◌then◌else◌, map, filter, flat_map, Option, Some, None, Result, Ok, Err, is_some, refl}
 use Rattle.std.specs.List.{enumerate_from}
 use native.Mathlib.Omega.{arith}
-use mathlib.Core.Path.{ap, ap₂, ◌∙◌}
+use mathlib.Core.Path.{sym, ap, ap₂, ◌∙◌}
 use Rattle.std.proofs.lemmas.List.Folds.{list_any-append}
 use Rattle.std.proofs.lemmas.List.Elements.{filter-append}
 use Rattle.std.proofs.lemmas.List.{map-append}
@@ -22,7 +22,9 @@ use Rattle.x12_acks.specs.Accepted.{AcceptedSet, judged_set, accepted_in_group, 
 use Rattle.x12_acks.specs.Told.{is_among}
 use Rattle.x12_profile.specs.Interchange.{Bytes, PlacedTransactionSet}
 use Rattle.x12_profile.specs.Laws.{IsReply, Laws}
-use Rattle.x12_profile.specs.X12.{x12, sets_of_group}
+use Rattle.x12_profile.specs.declared.edition.Edition.{Edition}
+use Rattle.x12_profile.specs.Result.{takes, result_if}
+use Rattle.x12_profile.specs.X12.{x12, judged_by, result_at, sets_of_group}
 use Rattle.x12_profile.proofs.FieldLemmas as field
 use Rattle.x12_station.specs.History.{Came, posted_by, posting_of}
 use Rattle.std.proofs.lemmas.Bool.{and_right}
@@ -176,6 +178,11 @@ same_filter : (f g : PlacedTransactionSet → Bool) → ((s : PlacedTransactionS
 same_filter f g alike [] = refl
 same_filter f g alike (s ∷ sets) = ap₂ (λ (t : Bool) (l : List PlacedTransactionSet). cond t (s ∷ l) l) (alike s) (same_filter f g alike sets)
 
+-- what is accepted is taken
+takes_if : (t : Bool) → takes (result_if t) ≡ t
+takes_if true = refl
+takes_if false = refl
+
 module _ (me : Party) (a : List TradingAgreement) (b : Bytes) (h : Header) (known : header_of b ≡ Ok h) where
   abbrev pub verdict_here : InterchangeVerdict
   verdict_here = (judgement_of me a h b).verdict
@@ -205,8 +212,12 @@ module _ (me : Party) (a : List TradingAgreement) (b : Bytes) (h : Header) (know
       by (Err f) there = rw (field.no_sets b h known f there, there) (no_groups (note_of_interchange me h (Err f)))
 
   -- what the history posts of an arrival with its reply is what the verdict accepts
-  pub reply_posts : Laws x12 → (r : Bytes) → IsReply x12 me a b r → posted_by x12 (Came b (Some r)) ≡ accepted_by_verdict h.sender h.icn verdict_here
-  reply_posts laws r reply =
-      ap (map (posting_of x12 b)) (same_filter (λ s. x12.accepts b r s.place) (λ s. is_among (accepted_by_verdict h.sender h.icn verdict_here) s.place.group s.place.set)
-      (λ s. laws.reply.accepts me a b r reply s.place ∙ field.verdict_is b h known me a s.place) (x12.sets b))
+  posted_so : Laws x12 → (r : Bytes) → IsReply x12 me a b r → map (posting_of x12 b) (filter (λ s. takes (x12.result b r s.place)) (x12.sets b)) ≡ accepted_by_verdict h.sender h.icn verdict_here
+  posted_so laws r reply =
+      ap (map (posting_of x12 b)) (same_filter (λ s. takes (x12.result b r s.place)) (λ s. is_among (accepted_by_verdict h.sender h.icn verdict_here) s.place.group s.place.set)
+      (λ s. ap takes (laws.reply.result me a b r reply s.place ∙ field.verdict_is b h known reply.edition me a s.place ∙ ap (λ j. result_at s.place (accepted_by_verdict h.sender h.icn j.verdict)) (field.is_first reply.edition me a h b))
+      ∙ takes_if (is_among (accepted_by_verdict h.sender h.icn verdict_here) s.place.group s.place.set)) (x12.sets b))
       ∙ verdict_posts
+
+  pub reply_posts : (ed : Edition) → Laws x12 → (r : Bytes) → IsReply x12 me a b r → posted_by x12 (Came ed b (Some r)) ≡ accepted_by_verdict h.sender h.icn (judged_by ed me a h b).verdict
+  reply_posts ed laws r reply = posted_so laws r reply ∙ sym (ap (λ j. accepted_by_verdict h.sender h.icn j.verdict) (field.is_first ed me a h b))

@@ -1,5 +1,5 @@
 -- An arrival's step and its row of the table, by what it was seen to be.
-use Rattle.std.specs.Prelude.{◌≡◌, ℕ, Result, IfOk, option_copied, ◌-◌, ◌^◌, List, ◌∷◌, [], Bool, true, false, not, ◌&&◌, ◌||◌, nat_le, bytes_eq, map, Option, Some, None, Ok, Err, option_map, option_to_list, if◌then◌else◌, refl}
+use Rattle.std.specs.Prelude.{◌≡◌, ℕ, Result, IfOk, option_copied, ◌+◌, ◌-◌, ◌^◌, List, ◌∷◌, [], Bool, true, false, not, ◌&&◌, ◌||◌, nat_le, bytes_eq, map, Option, Some, None, Ok, Err, option_map, option_to_list, if◌then◌else◌, refl}
 use Rattle.std.specs.Borrow.{Bor}
 use mathlib.Core.Path.{sym, ap, ap₂, ◌∙◌}
 use Rattle.x12_numbers.specs.Book.{Numbers}
@@ -16,6 +16,7 @@ use Rattle.x12_inbound.specs.Sighting.{first, again, other, sighting_of}
 use Rattle.x12_judge.specs.Agreement.{TradingAgreement, agreement_view}
 use Rattle.x12_outbound.specs.Counts.{only_unclear}
 use Rattle.x12_profile.specs.Interchange.{Bytes, Needs, book_for}
+use Rattle.x12_profile.specs.Edition.{edition_at}
 use Rattle.x12_profile.specs.X12.{needs_of, x12}
 use Rattle.x12_profile.proofs.FieldLemmas as field
 use Rattle.x12_station.specs.declared.arriving.Arrival.{Arrival}
@@ -30,7 +31,7 @@ use Rattle.x12_station.specs.Fault.{arrival_fault, arrived_fault, has_no_item_le
 use Rattle.x12_station.specs.History.{KeptArrival, filed}
 use Rattle.x12_station.specs.Keeps.{IsReady}
 use Rattle.x12_station.specs.Seen.{station_of}
-use Rattle.x12_station.specs.Station.{Station}
+use Rattle.x12_station.specs.Station.{Station, edition_next}
 use Rattle.x12_station.specs.StationRefusal.{is_spent}
 use Rattle.x12_station.specs.StationStep.{arrive, arrive_at, arrive_new, arrive_other}
 use Rattle.x12_station.specs.Stored.{Stored, filed_in}
@@ -112,7 +113,7 @@ module _ (m : Cached) (s : Stored) (held : IsHeld m s) (b : Bytes) (h : Header) 
   arrive_is at = rw (field.has_header_is b h known) (ap (arrive_at x12 was at b) filed_there)
 
   -- the step of what is new, and of other bytes
-  pub new_step : (x : Arrived) → first x ≡ sighting_of o (arrival h.sender h.icn b) → (at : Moment) → arrive_new x12 was at b (book_for was.book (x12.needs was.me was.agreements b)) ≡ arrive x12 was at b
+  pub new_step : (x : Arrived) → first x ≡ sighting_of o (arrival h.sender h.icn b) → (at : Moment) → arrive_new x12 was at b (book_for was.book (x12.needs (edition_next was) was.me was.agreements b)) ≡ arrive x12 was at b
   new_step x is at = sym (arrive_is at ∙ ap (λ z. arrive_at x12 was at b (filed_of z)) (new_is b h o x is).0)
 
   pub other_step : other ≡ sighting_of o (arrival h.sender h.icn b) → (at : Moment) → arrive_other x12 was at b (book_for was.book (record { reply = true; group = false })) ≡ arrive x12 was at b
@@ -165,14 +166,16 @@ module _ (m : Cached) (s : Stored) (held : IsHeld m s) (b : Bytes) (h : Header) 
 
   -- the row of a new arrival
   pub new_fault : IsReady m → (x : Arrived) → first x ≡ sighting_of o (arrival h.sender h.icn b)
-      → exhausted (is_spent m.book (needs_of m.me (map agreement_view m.agreements.items) b h) || nat_le (2 ^ 63 - 1) m.seq) ≡ arrival_fault was b
+      → exhausted (is_spent m.book (needs_of (edition_at (m.seq + 1)) m.me (map agreement_view m.agreements.items) b h) || nat_le (2 ^ 63 - 1) m.seq) ≡ arrival_fault was b
   new_fault ready x is =
-      let needs_here : needs_of m.me (map agreement_view m.agreements.items) b h ≡ x12.needs was.me was.agreements b =
-      ap₂ (λ (p : Party) (a : List TradingAgreement). needs_of p a b h) (sym ready.me) held.0.agreements ∙ sym (field.needs_is b h known was.me was.agreements) in
+      let edition_here : edition_at (m.seq + 1) ≡ edition_next was = ap (λ n. edition_at (n + 1)) (held.0.seq ∙ sym (length_items s held.1.sound.numbered)) in
+      let needs_here : needs_of (edition_at (m.seq + 1)) m.me (map agreement_view m.agreements.items) b h ≡ x12.needs (edition_next was) was.me was.agreements b =
+      ap₂ (λ (p : Party) (a : List TradingAgreement). needs_of (edition_at (m.seq + 1)) p a b h) (sym ready.me) held.0.agreements
+      ∙ ap (λ ed. needs_of ed was.me was.agreements b h) edition_here ∙ sym (field.needs_is b h known (edition_next was) was.me was.agreements) in
       let last_here : nat_le (2 ^ 63 - 1) m.seq ≡ has_no_item_left was =
       ap (nat_le (2 ^ 63 - 1)) (held.0.seq ∙ sym (length_items s held.1.sound.numbered)) in
       ap₂ (λ u v. exhausted (u || v)) (ap₂ (λ (k : Numbers) (n : Needs). is_spent k n) held.0.book needs_here) last_here
-      ∙ sym (fault_by ∙ ap (λ z. numbers_fault was b (filed_of z)) (new_is b h o x is).0 ∙ two_rows (is_spent was.book (x12.needs was.me was.agreements b)) (has_no_item_left was))
+      ∙ sym (fault_by ∙ ap (λ z. numbers_fault was b (filed_of z)) (new_is b h o x is).0 ∙ two_rows (is_spent was.book (x12.needs (edition_next was) was.me was.agreements b)) (has_no_item_left was))
 
   -- the row of other bytes
   pub other_fault : other ≡ sighting_of o (arrival h.sender h.icn b) → exhausted (is_spent m.book (record { reply = not (x12.is_silent b); group = false })) ≡ arrival_fault was b

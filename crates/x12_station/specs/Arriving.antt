@@ -15,7 +15,7 @@ use Rattle.x12_station.specs.declared.arriving.ArrivalKind.{ArrivalKind}
 use Rattle.x12_station.specs.declared.arriving.ArrivalKind.TheVariants.{New, Same, Other}
 use Rattle.x12_station.specs.Counts.{arrival_counts}
 use Rattle.x12_station.specs.History.{KeptArrival, filed}
-use Rattle.x12_station.specs.Station.{Station}
+use Rattle.x12_station.specs.Station.{Station, edition_next}
 use Rattle.x12_station.specs.StationStep.{StationStep, arrive, arrive_new, arrive_other}
 
 -- new where nothing is filed under its sender and number; else the same bytes, or other ones
@@ -30,7 +30,9 @@ step_to s a = record { station = s; sends = option_to_list (reply_bytes a.reply)
 -- what its evidence did: nothing, where it is refused or isn't new
 abbrev pub counts_told : Station → Option KeptArrival → Bytes → Counts
 counts_told s None b =
-    if x12.refuses s.me b then only_unclear 0 else arrival_counts x12 s.me s.hubs s.items b
+    if x12.refuses (edition_next s) s.me b
+    then only_unclear 0
+    else arrival_counts x12 (edition_next s) s.me s.hubs s.items b
 counts_told s (Some f) b = only_unclear 0
 
 -- The station took the step of the definition, and says what arrived and what its evidence did.
@@ -53,5 +55,6 @@ TakesOther old new at b reply =
 -- the step of new bytes, sending this reply
 abbrev pub TakesNew : Station → Station → Moment → Bytes → Option Bytes → Type 0
 TakesNew old new at b reply =
-    arrive_new x12 old at b (book_for old.book (x12.needs old.me old.agreements b))
+    let needs = x12.needs (edition_next old) old.me old.agreements b in
+    arrive_new x12 old at b (book_for old.book needs)
     ≡ Some (record { station = new; sends = option_to_list reply })

@@ -10,17 +10,23 @@ use Rattle.x12_judge.specs.Agreement.{TradingAgreement}
 use Rattle.x12_acks.specs.Submission.{Submission, SubmittedGroup, SubmittedSet}
 use Rattle.x12_inbound.specs.Filing.{FiledInterchange}
 use Rattle.x12_outbound.specs.Entry.{InterchangeRow, GroupRow, SetRow}
+use Rattle.x12_profile.specs.declared.edition.Edition.{Edition}
+use Rattle.x12_profile.specs.Edition.{edition_at}
 use Rattle.x12_profile.specs.Interchange.{Bytes}
 use Rattle.x12_profile.specs.X12.{x12, submission_in_bytes}
 use Rattle.x12_station.specs.History.{Item, Submitted, Came, submissions, postings, fate_in}
 use Rattle.x12_station.specs.Stored.{Stored, StoredArrival, IsSound, origin_of, entries}
+
+-- an arrival of this number, whose edition the number gives
+abbrev pub item_of_arrival : ℕ → StoredArrival → Item
+item_of_arrival n r = Came (edition_at n) r.filed.bytes r.filed.reply
 
 -- the submission or the first arrival of this number
 abbrev pub item_at : Stored → ℕ → Option Item
 item_at s n =
     option_or
     (option_map (λ r. Submitted r.bytes) (find (λ r. r.seq == n) s.submitted))
-    (option_map (λ r. Came r.filed.bytes r.filed.reply) (find (λ r. r.seq == n) s.arrived))
+    (option_map (item_of_arrival n) (find (λ r. r.seq == n) s.arrived))
 
 -- the history: submissions and first arrivals in the order of their numbers
 unfoldable pub items_of : Stored → List Item
@@ -62,9 +68,10 @@ pub record IsFiledRightly (f : FiledInterchange) : Type 0 where
   pub partner : f.partner ≡ x12.sender f.bytes
   pub icn : f.icn ≡ x12.number f.bytes
 
--- What is kept of an arrival is the reply that was due, by some agreements and at some moment, under
--- numbers of which none is above these; or none, where none was due.
-pub record WasAnswered (me : Party) (book : Numbers) (f : FiledInterchange) : Type 0 where
+-- What is kept of an arrival is the reply that was due by this edition, by some agreements and at some
+-- moment, under numbers of which none is above these; or none, where none was due.
+pub record WasAnswered (by : Edition) (me : Party) (book : Numbers) (f : FiledInterchange)
+    : Type 0 where
   pub agreements : List TradingAgreement
   pub at : Moment
   pub numbers : Numbers
@@ -72,13 +79,13 @@ pub record WasAnswered (me : Party) (book : Numbers) (f : FiledInterchange) : Ty
   pub group : numbers.group ≤ book.group
   pub reply :
       f.reply
-      ≡ (if (x12.needs me agreements f.bytes).reply
-      then Some (x12.reply me agreements at numbers f.bytes)
+      ≡ (if (x12.needs by me agreements f.bytes).reply
+      then Some (x12.reply by me agreements at numbers f.bytes)
       else None)
 
--- there were such agreements, such a moment and such numbers
+-- there were such agreements, such a moment and such numbers, by the edition of its number
 abbrev pub IsAnsweredRightly : Party → Numbers → StoredArrival → Type 0
-IsAnsweredRightly me book r = ∥ WasAnswered me book r.filed ∥₁
+IsAnsweredRightly me book r = ∥ WasAnswered (edition_at r.seq) me book r.filed ∥₁
 
 -- a station may have submitted these bytes
 pub record IsOwnSubmission (me : Party) (x : Bytes) : Type 0 where

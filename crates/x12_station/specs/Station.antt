@@ -1,9 +1,11 @@
 -- A station: what it keeps, and what an agreement makes of it.
 use Rattle.x12_numbers.specs.Book.{new_book}
-use Rattle.std.specs.Prelude.{ℕ, List, [], ◌∷◌, ◌++◌, Bool, true, false, ◌&&◌, not, if◌then◌else◌}
+use Rattle.std.specs.Prelude.{ℕ, ◌+◌, length, List, [], ◌∷◌, ◌++◌, Bool, true, false, ◌&&◌, not, if◌then◌else◌}
 use Rattle.std.specs.Prelude.{filter, bytes_eq}
 use Rattle.x12_envelopes.specs.declared.party.Party.{Party}
 use Rattle.x12_judge.specs.Agreement.{is_same_party, TradingAgreement}
+use Rattle.x12_profile.specs.declared.edition.Edition.{Edition}
+use Rattle.x12_profile.specs.Edition.{edition_at}
 use Rattle.x12_profile.specs.Interchange.{Book}
 use Rattle.x12_outbound.specs.declared.evidence.Counts.{Counts}
 use Rattle.x12_outbound.specs.Counts.{only_unclear}
@@ -23,6 +25,10 @@ pub record Station : Type 0 where
   pub tick : ℕ
   pub sendings : List Sending
   pub counts : Counts
+
+-- the edition of what comes next
+abbrev pub edition_next : Station → Edition
+edition_next s = edition_at (length s.items + 1)
 
 -- a station of this party with empty records
 abbrev pub new_station : Party → List Party → Station

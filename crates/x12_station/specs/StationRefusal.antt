@@ -10,7 +10,7 @@ use Rattle.x12_judge.specs.Agreement.{is_same_party}
 use Rattle.x12_profile.specs.Interchange.{Bytes, Order, Book, Needs, book_for, is_within}
 use Rattle.x12_profile.specs.Profile.{Profile}
 use Rattle.x12_station.specs.History.{KeptArrival, filed}
-use Rattle.x12_station.specs.Station.{Station}
+use Rattle.x12_station.specs.Station.{Station, edition_next}
 
 -- what a station says where it refuses
 pub data StationRefusal : Type 0 where
@@ -78,7 +78,7 @@ module _ (p : Profile) where
 
   -- the numbers that the answer to an arrival takes: none for bytes that are filed, or silent
   abbrev pub arrival_takes : Station → Bytes → Option KeptArrival → Needs
-  arrival_takes s b None = p.needs s.me s.agreements b
+  arrival_takes s b None = p.needs (edition_next s) s.me s.agreements b
   arrival_takes s b (Some f) = record {
     reply = not (bytes_eq f.body b) && not (p.is_silent b);
     group = false;

@@ -16,7 +16,7 @@ use Rattle.x12_outbound.specs.Counts.{only_unclear}
 use Rattle.x12_outbound.specs.Fate.{is_pending}
 use Rattle.x12_outbound.specs.declared.fate.Fate.{Fate}
 use Rattle.x12_station.specs.Counts.{count_arrival}
-use Rattle.x12_station.specs.Station.{Station}
+use Rattle.x12_station.specs.Station.{Station, edition_next}
 use Rattle.x12_station.specs.StationRefusal.{prepared_refusal, orders_refusal, written_orders}
 
 -- what a station does at an event
@@ -75,12 +75,12 @@ module _ (p : Profile) where
   -- b is filed with its reply, what it tells is counted, and what it closes is sent no more
   abbrev pub filed_now : Station → Bytes → Option Bytes → Book → Station
   filed_now s b reply book =
-      let items = s.items ++ Came b reply ∷ [] in
+      let items = s.items ++ Came (edition_next s) b reply ∷ [] in
       record s {
         items = items;
         book = book;
         sendings = still_open (record s { items = items });
-        counts = count_arrival p s.me s.hubs s.items b s.counts;
+        counts = count_arrival p (edition_next s) s.me s.hubs s.items b s.counts;
       }
 
   -- a step that writes needs numbers that may be written
@@ -94,8 +94,8 @@ module _ (p : Profile) where
   -- what is due is written under the next numbers, filed and sent
   abbrev pub arrive_new : Station → Moment → Bytes → Book → Option StationStep
   arrive_new s at b book =
-      if (p.needs s.me s.agreements b).reply
-      then writes book (replied s b book (p.reply s.me s.agreements at book b))
+      if (p.needs (edition_next s) s.me s.agreements b).reply
+      then writes book (replied s b book (p.reply (edition_next s) s.me s.agreements at book b))
       else Some (record { station = filed_now s b None s.book; sends = [] })
 
   -- other bytes under a filed number raise it, and change nothing else
@@ -111,7 +111,8 @@ module _ (p : Profile) where
 
   -- the same bytes again give the kept reply, and change nothing
   abbrev pub arrive_at : Station → Moment → Bytes → Option KeptArrival → Option StationStep
-  arrive_at s at b None = arrive_new s at b (book_for s.book (p.needs s.me s.agreements b))
+  arrive_at s at b None =
+      arrive_new s at b (book_for s.book (p.needs (edition_next s) s.me s.agreements b))
   arrive_at s at b (Some f) =
       if bytes_eq f.body b
       then Some (record { station = s; sends = option_to_list f.reply })

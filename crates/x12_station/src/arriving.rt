@@ -1,7 +1,7 @@
 //! An arrival: judged once, posted once, and answered the same way for good.
 
 ghost use Rattle.std.specs.Prelude.{◌≡◌, ℕ, List, Ok, true, false, not, IsTrue, IfOk, IfErr, OnErr};
-ghost use Rattle.std.specs.Prelude.{◌≤◌, ◌-◌, ◌^◌, ◌||◌, map, nat_le, None, option_map};
+ghost use Rattle.std.specs.Prelude.{◌≤◌, ◌+◌, ◌-◌, ◌^◌, ◌||◌, map, nat_le, None, option_map};
 ghost use Rattle.std.specs.Borrow.{Bor};
 ghost use Rattle.x12_envelopes.specs.declared.delimiters.Delims.{Delims};
 ghost use Rattle.x12_envelopes.specs.Header.{header_of};
@@ -10,11 +10,11 @@ ghost use Rattle.x12_inbound.specs.Arrival.{arrived_view};
 ghost use Rattle.x12_inbound.specs.Filing.{reply_bytes};
 ghost use Rattle.x12_judge.specs.Agreement.{agreement_view};
 ghost use Rattle.x12_judge.specs.Interchange.{reading_is_silent};
-ghost use Rattle.x12_judge.specs.Verdict.{judgement_of};
 ghost use Rattle.x12_outbound.specs.Counts.{only_unclear, AreCounts};
 ghost use Rattle.x12_outbound.specs.Plan.{IsPlan};
+ghost use Rattle.x12_profile.specs.Edition.{edition_at};
 ghost use Rattle.x12_profile.specs.Interchange.{book_for};
-ghost use Rattle.x12_profile.specs.X12.{needs_of, x12};
+ghost use Rattle.x12_profile.specs.X12.{judged_by, needs_of, x12};
 ghost use Rattle.x12_station.specs.Arriving.{AreReadAs, TakesNew, TakesOther, counts_told};
 ghost use Rattle.x12_station.specs.Closed.{heard};
 ghost use Rattle.x12_station.specs.declared.arriving.ArrivalKind.TheVariants.{New, Same};
@@ -25,6 +25,7 @@ ghost use Rattle.x12_station.specs.working.Hearing.{IsHeard};
 ghost use Rattle.x12_profile.specs.Stop.{CountsFailures};
 ghost use Rattle.x12_station.specs.Seen.{station_of};
 ghost use Rattle.x12_station.specs.Standing.{Stands, StandsAgain, WereAsked};
+ghost use Rattle.x12_station.specs.Station.{edition_next};
 ghost use Rattle.x12_station.specs.StationRefusal.{is_spent};
 ghost use Rattle.x12_station.specs.StationStep.{arrive_new, arrive_other};
 ghost use Rattle.x12_station.specs.Stopped.{LeavesStep};
@@ -42,9 +43,8 @@ use crate::replying::{Draft, drafted};
 use std::alloc::{AllocError, Global};
 use x12_envelopes::{Header, Moment, Outline, OutlineFault, outline};
 use x12_inbound::{Arrived, what_is_posted_was_accepted};
-use x12_judge::judge;
 use x12_outbound::{Counts, Settling};
-use x12_profile::x12_meets_the_laws;
+use x12_profile::{Edition, x12_meets_the_laws};
 
 /// What an arrival was, by what is filed under its sender (ISA05, ISA06) and number (ISA13).
 #[derive(Clone, Copy, Debug, PartialEq, Eq)]
@@ -175,20 +175,23 @@ fn weighed<R: Records>(
     requires read { AreReadAs bytes.now header.now (arrived_view arrived) }
     ensures asked { WereAsked R.Records records.old records.new }
     ensures weighed { IfOk result (λ w. IsPlan memory.now.ledger.holds w.1.pieces
-        × IsDraft memory.now.me (map agreement_view memory.now.agreements.items) at.now
+        × IsDraft (edition_at (memory.now.seq + 1)) memory.now.me
+        (map agreement_view memory.now.agreements.items) at.now
         memory.now.book header.now bytes.now w.0) }
     ensures heard { let ags = map agreement_view memory.now.agreements.items in
         IsTrue (R.answers records.new) → IfOk result (λ w. IsHeard memory.now.ledger.holds
         (R.content records.old) header.now.sender (heard
-        (judgement_of memory.now.me ags header.now bytes.now).verdict bytes.now) w.1) }
+        (judged_by (edition_at (memory.now.seq + 1)) memory.now.me ags header.now bytes.now).verdict
+        bytes.now) w.1) }
 
     ensures fault { IfErr result (IsRowOrWant (exhausted (is_spent memory.now.book (needs_of
-        memory.now.me (map agreement_view memory.now.agreements.items) bytes.now header.now)))) }
+        (edition_at (memory.now.seq + 1)) memory.now.me (map agreement_view memory.now.agreements.items) bytes.now header.now)))) }
     ensures device { CountsFailures result (λ f. f ≡ Store)
         (R.failed records.old) (R.failed records.new) }
 {
     let (alloc, me) = (memory.alloc, &memory.me);
-    let judgement = judge(alloc, me, &memory.agreements, bytes, header)?;
+    let edition = Edition::after(memory.seq);
+    let judgement = edition.judge(alloc, me, &memory.agreements, bytes, header)?;
     let answers = answers_heard(alloc, bytes, header, &judgement)?;
     let settling = match planned(records, alloc, &memory.ledger, &header.sender, &answers) {
         Ok(settling) => settling,
@@ -232,11 +235,13 @@ pub(crate) fn answer_new<R: Records>(
         at.now bytes.now (reply_bytes a.reply)) }
     ensures crash { let was =
         station_of memory.old.ledger.holds memory.old.counts (R.content records.old) in
-        LeavesStep R.Records (arrive_new x12 was at.now bytes.now
-        (book_for was.book (x12.needs was.me was.agreements bytes.now))) records.old records.new }
+        let needs = x12.needs (edition_next was) was.me was.agreements bytes.now in
+        LeavesStep R.Records (arrive_new x12 was at.now bytes.now (book_for was.book needs))
+        records.old records.new }
 
     ensures fault { let last = nat_le (2 ^ 63 - 1) memory.old.seq in
-        IfErr result (IsRowOrWant (exhausted (is_spent memory.old.book (needs_of memory.old.me
+        let by = edition_at (memory.old.seq + 1) in
+        IfErr result (IsRowOrWant (exhausted (is_spent memory.old.book (needs_of by memory.old.me
         (map agreement_view memory.old.agreements.items) bytes.now header.now) || last))) }
     ensures unchanged { IsTrue (R.answers records.new) → OnErr result
         (station_of memory.new.ledger.holds memory.new.counts (R.content records.new)

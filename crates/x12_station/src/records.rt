@@ -254,7 +254,7 @@ pub trait Records {
         ensures same { IsTrue (answers self.new) → content self.new ≡ content self.old }
         // a database: the row of this number, of one table or of the other
         ensures found { IsTrue (answers self.new) → IfOk result (λ o.
-            option_map history_item o ≡ item_at (content self.old) seq) }
+            option_map (history_item seq) o ≡ item_at (content self.old) seq) }
         ensures device { CountsFailures result (λ e. e ≡ StoreFault.Device)
             (failed self.old) (failed self.new) }
         ensures crash { OnlyAsks result (clean self.old) (clean self.new) (answers self.new)

@@ -14,12 +14,13 @@ use Rattle.x12_inbound.specs.Order.{interchange, is_same_interchange}
 use Rattle.x12_inbound.specs.Register.{is_under}
 use Rattle.x12_numbers.proofs.Shelf.{all_from_contains, contains_cons, contains_head, contains_mapped, contains_tail, found_passes, map_twice, none_in_nil}
 use Rattle.x12_outbound.specs.Entry.{InterchangeRow}
+use Rattle.x12_profile.specs.Edition.{edition_at}
 use Rattle.x12_profile.specs.X12.{x12}
 use Rattle.x12_station.specs.Durable.{IsFiledRightly, IsAnsweredRightly, IsHistoryOf, IsOwnSubmission, WasAnswered, fared_entries, items_of}
-use Rattle.x12_station.specs.History.{Item, Submitted, Came, KeptArrival, arrivals, postings, submissions}
+use Rattle.x12_station.specs.History.{HasCame, Item, Submitted, Came, KeptArrival, arrivals, postings, submissions}
 use Rattle.x12_station.specs.Stored.{AreNumbered, IsSound, Stored, StoredArrival, entries, entry_of_row, origin_of}
 use Rattle.x12_station.proofs.EntryLemmas.{entries_rise}
-use Rattle.x12_station.proofs.HistoryLemmas.{in_submissions}
+use Rattle.x12_station.proofs.HistoryLemmas.{came_later, in_submissions}
 use Rattle.x12_station.proofs.ItemLemmas.{arrivals_are, came, came_are, filed_of_row, submissions_are}
 use Rattle.x12_station.proofs.KnownLemmas.{all_submitted, entry_of, known}
 use Rattle.x12_station.proofs.KnownLemmas as listed
@@ -31,12 +32,12 @@ use Rattle.x12_verify.specs.Told.{HoldsTold, IsRightItem, all_as_told, items_up_
 use Rattle.x12_verify.proofs.ApartLemmas.{AreApart, apart_by_pairs, apart_if_distinct, one_for_key, same_lists}
 use Rattle.x12_verify.proofs.ToldLemmas.{all_items, same_arrivals, same_fates, same_submissions}
 
-in_came : (items : List Item) (k : KeptArrival) → Contains (came items) k → Contains items (Came k.body k.reply)
+in_came : (items : List Item) (k : KeptArrival) → Contains (came items) k → HasCame items k.body k.reply
 in_came [] k at = none_in_nil k at
-in_came (Submitted x ∷ items) k at = contains_tail (Came k.body k.reply) (Submitted x) items (in_came items k at)
-in_came (Came b r ∷ items) k at = elim (contains_cons k (record { body = b; reply = r }) (came items) at) [
-  | inl is ↦ subst (λ (q : KeptArrival). Contains (Came b r ∷ items) (Came q.body q.reply)) is (contains_head (Came b r) items)
-  | inr later ↦ contains_tail (Came k.body k.reply) (Came b r) items (in_came items k later)
+in_came (Submitted x ∷ items) k at = came_later (Submitted x) items k.body k.reply (in_came items k at)
+in_came (Came ed b r ∷ items) k at = elim (contains_cons k (record { body = b; reply = r }) (came items) at) [
+  | inl is ↦ subst (λ (q : KeptArrival). HasCame (Came ed b r ∷ items) q.body q.reply) is (ed, contains_head (Came ed b r) items)
+  | inr later ↦ came_later (Came ed b r) items k.body k.reply (in_came items k later)
 ]
 
 -- the submissions of sound records
@@ -92,8 +93,8 @@ module _ (me : Party) (hubs : List Party) (s d : Stored) (sound : IsSound s) (wr
 
     right_arrival : (r : StoredArrival) → Contains s.arrived r → IsRightArrival s me s.book r.filed.bytes r.filed.reply
     right_arrival r at =
-        All-contains (IsRightItem s me s.book) (items_of s) (Came r.filed.bytes r.filed.reply) right
-        (in_came (items_of s) (filed_of_row r) (subst (λ l. Contains l (filed_of_row r)) (sym (came_are s sound.numbered)) (contains_mapped filed_of_row s.arrived r at)))
+        let there = in_came (items_of s) (filed_of_row r) (subst (λ l. Contains l (filed_of_row r)) (sym (came_are s sound.numbered)) (contains_mapped filed_of_row s.arrived r at)) in
+        All-contains (IsRightItem s me s.book) (items_of s) (Came there.0 r.filed.bytes r.filed.reply) right there.1
 
     filed_is : (r : StoredArrival) → Contains s.arrived r → r.filed ≡ filed_rightly r.filed.bytes r.filed.reply
     filed_is r at =
@@ -111,7 +112,7 @@ module _ (me : Party) (hubs : List Party) (s d : Stored) (sound : IsSound s) (wr
     })
 
     pub answered_are : All (IsAnsweredRightly me s.book) s.arrived
-    answered_are = all_from_contains (IsAnsweredRightly me s.book) s.arrived (λ r at. ∣ subst (WasAnswered me s.book) (sym (filed_is r at)) (right_arrival r at).answered ∣₁)
+    answered_are = all_from_contains (IsAnsweredRightly me s.book) s.arrived (λ r at. ∣ subst (WasAnswered (edition_at r.seq) me s.book) (sym (filed_is r at)) ((right_arrival r at).answered (edition_at r.seq)) ∣₁)
 
     pub history_is : s.origin ≡ origin_of me hubs → All (IsRightSubmission (entries s) (entries d)) (items_of d) → s.postings ≡ postings x12 (items_of s) → IsHistoryOf me hubs s
     history_is origin stand posted = record {

@@ -7,6 +7,7 @@ use Rattle.x12_envelopes.specs.declared.party.Party.{Party}
 use Rattle.x12_inbound.specs.Filing.{FiledInterchange}
 use Rattle.x12_judge.specs.Verdict.{InterchangeJudgement}
 use Rattle.x12_numbers.specs.Book.{Numbers}
+use Rattle.x12_profile.specs.declared.edition.Edition.{Edition}
 use Rattle.x12_profile.specs.Interchange.{Bytes}
 use Rattle.x12_profile.specs.X12.{x12}
 use Rattle.x12_station.specs.Durable.{WasAnswered}
@@ -30,4 +31,4 @@ pub record IsRightArrival (s : Stored) (me : Party) (book : Numbers) (b : Bytes)
     (r : Option Bytes) : Type 0 where
   pub header : IsTrue (x12.has_header b)
   pub filed : filed_in s (x12.sender b) (x12.number b) ≡ Some (filed_rightly b r)
-  pub answered : WasAnswered me book (filed_rightly b r)
+  pub answered : (by : Edition) → WasAnswered by me book (filed_rightly b r)

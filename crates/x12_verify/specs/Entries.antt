@@ -31,7 +31,7 @@ pub record StandsInBoth (one other : List InterchangeRow) (x : Bytes) : Type 0 w
 -- a submission stands in both
 abbrev pub IsRightSubmission : List InterchangeRow → List InterchangeRow → Item → Type 0
 IsRightSubmission one other (Submitted x) = StandsInBoth one other x
-IsRightSubmission one other (Came b r) = Unit {0}
+IsRightSubmission one other (Came by b r) = Unit {0}
 
 -- each of these submissions stands there, and no set of it is lifted
 pub record AreOpenIn (entries rows : List InterchangeRow) : Type 0 where

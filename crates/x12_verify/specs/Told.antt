@@ -1,10 +1,12 @@
 -- A history that is told again: the submissions and first arrivals by their numbers, without the
--- replies that are kept. Fates are functions of what is told; postings of the kept replies.
+-- replies that are kept. Fates are functions of what is told; postings of the kept replies. All is
+-- read by the one edition that there is.
 use Rattle.std.specs.Prelude.{◌≡◌, ℕ, List, [], ◌∷◌, ◌++◌, map, flat_map, Some, None, option_to_list, All}
 use Rattle.std.specs.List.{range_with_len}
 use Rattle.x12_acks.specs.Accepted.{AcceptedSet}
 use Rattle.x12_envelopes.specs.declared.party.Party.{Party}
 use Rattle.x12_numbers.specs.Book.{Numbers}
+use Rattle.x12_profile.specs.declared.edition.Edition.TheVariants.{First}
 use Rattle.x12_profile.specs.X12.{x12}
 use Rattle.x12_station.specs.Durable.{IsHistoryOf, item_at, items_of}
 use Rattle.x12_station.specs.History.{Item, Submitted, Came, posted_by, postings}
@@ -15,7 +17,7 @@ use Rattle.x12_verify.specs.Arrived.{IsRightArrival}
 -- an item, without the reply that is kept for it
 abbrev pub as_told : Item → Item
 as_told (Submitted x) = Submitted x
-as_told (Came b r) = Came b None
+as_told (Came by b r) = Came First b None
 
 -- a history, without its replies
 abbrev pub all_as_told : List Item → List Item
@@ -28,7 +30,7 @@ items_up_to s n = flat_map (λ k. option_to_list (item_at s k)) (range_with_len 
 -- what was submitted is as it is; an arrival is filed and answered rightly
 abbrev pub IsRightItem : Stored → Party → Numbers → Item → Type 0
 IsRightItem s me book (Submitted x) = Unit {0}
-IsRightItem s me book (Came b r) = IsRightArrival s me book b r
+IsRightItem s me book (Came by b r) = IsRightArrival s me book b r
 
 -- of the same party at the same hubs
 abbrev pub HasSameParties : Station → Station → Type 0

@@ -4,6 +4,7 @@ use Rattle.std.specs.List.{list_all}
 use mathlib.Core.Path.{sym, ap, subst, ◌∙◌}
 use Rattle.x12_judge.specs.Agreement.{is_same_party}
 use Rattle.x12_profile.proofs.PartyLemmas.{is_same_party-Decides}
+use Rattle.x12_profile.specs.Result.{SetResult, Accepts, Rejects, takes, fate_of_result}
 use Rattle.x12_profile.specs.Interchange.{Bytes, PlacedTransactionSet}
 use Rattle.x12_profile.specs.Profile.{Profile}
 use Rattle.x12_profile.specs.Laws.{Laws}
@@ -12,9 +13,10 @@ use Rattle.x12_station.specs.Key.{own_key, own_keys, own_sets}
 use Rattle.x12_station.specs.Station.{Station}
 use Rattle.x12_station.proofs.ListLemmas.{contains_map, contains_flat_map}
 use Rattle.x12_numbers.proofs.Shelf.{bytes_eq_itself, found_passes, some_inj}
-use Rattle.x12_outbound.specs.declared.fate.Fate.TheVariants.{Pending, Accepted, Rejected}
+use Rattle.x12_outbound.specs.Fate.{ended}
+use Rattle.x12_outbound.specs.declared.fate.Fate.TheVariants.{Pending}
 use Rattle.x12_world.specs.Audit.{Audit, KeysTell, NoAuditIsBad, audit, audit_of, postings_are_bad, station_named, stations_of}
-use Rattle.x12_world.specs.Exchange.{Exchange, Judged, Learnt, Refines, Standing, Unknown, Waiting, fate_of, posted_of, verdict_accepts}
+use Rattle.x12_world.specs.Exchange.{Exchange, Judged, Learnt, Refines, Standing, Unknown, Waiting, fate_of, posted_of, result_of}
 use Rattle.x12_world.specs.Network.{Network}
 use Rattle.x12_world.specs.World.{World, StationAt}
 use Rattle.x12_world.proofs.KeyLemmas.{own, own_from, station_node}
@@ -24,16 +26,16 @@ use Rattle.x12_world.proofs.WorldLemmas.{Sound}
 good : (st : Standing) (t : PlacedTransactionSet) → postings_are_bad (fate_of st t.place) (list_all (bytes_eq t.bytes) (posted_of st t)) (Some (length (posted_of st t))) ≡ false
 good Unknown t = refl
 good Waiting t = refl
-good (Judged v) t = by (verdict_accepts v t.place)
+good (Judged v) t = by (takes (result_of v t.place))
   where
     by : (b : Bool) → postings_are_bad Pending (list_all (bytes_eq t.bytes) (if b then t.bytes ∷ [] else [])) (Some (length (if b then t.bytes ∷ [] else []))) ≡ false
     by true = rw (bytes_eq_itself t.bytes) refl
     by false = refl
-good (Learnt v) t = by (verdict_accepts v t.place)
+good (Learnt v) t = by (result_of v t.place)
   where
-    by : (b : Bool) → postings_are_bad (if b then Accepted else Rejected) (list_all (bytes_eq t.bytes) (if b then t.bytes ∷ [] else [])) (Some (length (if b then t.bytes ∷ [] else []))) ≡ false
-    by true = rw (bytes_eq_itself t.bytes) refl
-    by false = refl
+    by : (r : SetResult) → postings_are_bad (ended (fate_of_result r)) (list_all (bytes_eq t.bytes) (if takes r then t.bytes ∷ [] else [])) (Some (length (if takes r then t.bytes ∷ [] else []))) ≡ false
+    by Accepts = rw (bytes_eq_itself t.bytes) refl
+    by Rejects = refl
 
 module _ (p : Profile) (laws : Laws p) (net : Network) (w : World) (was : Sound p net w) (keys : KeysTell p w) (e : Exchange) (refines : Refines p w e) where
   -- of a set that a station submitted

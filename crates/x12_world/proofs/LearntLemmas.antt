@@ -3,10 +3,12 @@ use Rattle.std.specs.Prelude.{◌≡◌, ℕ, List, [], Bool, true, false, Optio
 use mathlib.Core.Path.{sym, ap, subst, ◌∙◌}
 use mathlib.Core.Logic.{inl, inr}
 use Rattle.x12_envelopes.specs.declared.party.Party.{Party}
+use Rattle.x12_profile.specs.declared.edition.Edition.{Edition}
+use Rattle.x12_profile.specs.Result.{SetResult, fate_of_result}
 use Rattle.x12_profile.specs.Interchange.{Bytes, PlaceOfSet, PlacedTransactionSet, PlacedEvidence, evidence_by}
 use Rattle.x12_profile.specs.Profile.{Profile}
 use Rattle.x12_profile.specs.Laws.{Laws, SharesGroup}
-use Rattle.x12_station.specs.History.{Item, Submitted, Came}
+use Rattle.x12_station.specs.History.{HasCame, Item, Submitted, Came}
 use Rattle.x12_station.specs.Station.{Station}
 use Rattle.x12_hub.specs.Hub.{Hub, Decision, Refused}
 use Rattle.x12_core.specs.Node.{Node, IsHub, IsStation, party_of_node, is_hub}
@@ -20,13 +22,13 @@ use Rattle.x12_world.proofs.Traces.{Trace, IsBy, IsCarried, IsRefusedWith, Origi
 use Rattle.x12_world.proofs.WorldLemmas.{trace_of, Sound, read, items_in, decisions_in}
 
 -- each piece of evidence of a list that tells a verdict is the verdict's
-pub by_verdict : (v : PlaceOfSet → Bool) (ss : List PlacedTransactionSet) (e : PlacedEvidence) → Contains (evidence_by v ss) e → (e.accepts ≡ v e.place) × (s : PlacedTransactionSet) × Contains ss s × (s.place ≡ e.place)
+pub by_verdict : (v : PlaceOfSet → SetResult) (ss : List PlacedTransactionSet) (e : PlacedEvidence) → Contains (evidence_by v ss) e → (e.fate ≡ fate_of_result (v e.place)) × (s : PlacedTransactionSet) × Contains ss s × (s.place ≡ e.place)
 by_verdict v ss e h =
-    let from = contains_map (λ (s : PlacedTransactionSet). record { place = s.place; accepts = v s.place }) ss e h in
-    (subst (λ z. z.accepts ≡ v z.place) from.2 refl, from.0, from.1, ap (λ z. z.place) from.2)
+    let from = contains_map (λ (s : PlacedTransactionSet). record { place = s.place; fate = fate_of_result (v s.place) }) ss e h in
+    (subst (λ z. z.fate ≡ fate_of_result (v z.place)) from.2 refl, from.0, from.1, ap (λ z. z.place) from.2)
 
-pub has_verdict : (v : PlaceOfSet → Bool) (ss : List PlacedTransactionSet) (s : PlacedTransactionSet) → Contains ss s → Contains (evidence_by v ss) (record { place = s.place; accepts = v s.place })
-has_verdict v ss s h = contains_mapped (λ (s : PlacedTransactionSet). record { place = s.place; accepts = v s.place }) ss s h
+pub has_verdict : (v : PlaceOfSet → SetResult) (ss : List PlacedTransactionSet) (s : PlacedTransactionSet) → Contains ss s → Contains (evidence_by v ss) (record { place = s.place; fate = fate_of_result (v s.place) })
+has_verdict v ss s h = contains_mapped (λ (s : PlacedTransactionSet). record { place = s.place; fate = fate_of_result (v s.place) }) ss s h
 
 module _ (p : Profile) (laws : Laws p) (net : Network) (w : World) (was : Sound p net w) where
   abbrev t : Trace
@@ -86,54 +88,54 @@ module _ (p : Profile) (laws : Laws p) (net : Network) (w : World) (was : Sound 
       from (refused z h) = let ok = was.holds.refusal i z y h in none (laws.refusal.no_groups ok.me z y ok.refusal)
 
   -- what the induction knows of an arrival that tells of a submission to a node, or comes from a hub
-  module _ (i : ℕ) (me : Party) (name : t.names i ≡ Some me) (x b : Bytes) (sent : Contains (t.items i) (Submitted x)) (header : IsTrue (p.has_header b)) (carried : (k : ℕ) → IsBy p t k b → IsCarried t b) (taken : p.refuses me b ≡ false)
-      (hubs : List Party) (e : PlacedEvidence) (tells : Contains (p.evidence hubs b x) e) where
+  module _ (ed : Edition) (i : ℕ) (me : Party) (name : t.names i ≡ Some me) (x b : Bytes) (sent : Contains (t.items i) (Submitted x)) (header : IsTrue (p.has_header b)) (carried : (k : ℕ) → IsBy p t k b → IsCarried t b) (taken : p.refuses ed me b ≡ false)
+      (hubs : List Party) (e : PlacedEvidence) (tells : Contains (p.evidence ed hubs b x) e) where
     x_ok : SentOk p t i x
     x_ok = was.holds.sent i x sent
 
     to_me : p.receiver b ≡ me
-    to_me = laws.refuses_others me b header taken
+    to_me = laws.refuses_others ed me b header taken
 
     -- what b answers was written by this station
     mine : (y : Bytes) → p.receiver b ≡ p.sender y → IsBy p t i y
     mine y to = name ∙ ap Some (sym to_me ∙ to)
 
     abbrev pub IsLearnt : ℕ → Type 0
-    IsLearnt j = Contains (t.items j) (Came x (Some b)) ⊎ IsRefusedWith t j x b
+    IsLearnt j = HasCame (t.items j) x (Some b) ⊎ IsRefusedWith t j x b
 
     pub learnt_at : (j : ℕ) → IsBy p t j b → IsLearnt j
     learnt_at j by = from (was.holds.origin j b (inl (carried j by)) by)
       where
         from : Origin p t j b → IsLearnt j
-        from (submitted h) = none_in_nil e (rw (laws.submission.tells_nothing hubs b x (was.holds.sent j b h).submission) at tells)
+        from (submitted h) = none_in_nil e (rw (laws.submission.tells_nothing ed hubs b x (was.holds.sent j b h).submission) at tells)
         from (replied y h) =
             let ok = was.holds.reply j y b h in
             let by_y = mine y (laws.reply.to ok.me ok.agreements y b ok.reply) in
             let y_carried = (was.holds.came j y (Some b) h).carried i by_y in
-            let same : y ≡ x = elim (laws.reply.about ok.me ok.agreements y b ok.reply hubs x e tells) [
+            let same : y ≡ x = elim (laws.reply.about ok.me ok.agreements y b ok.reply ed hubs x e tells) [
               | inl number ↦ was.holds.unique i y x (inl y_carried) (inl x_ok.carried) by_y x_ok.by number
               | inr shares ↦ ours i x y sent y_carried by_y shares
             ] in
-            inl (subst (λ z. Contains (t.items j) (Came z (Some b))) same h)
+            inl (subst (λ z. HasCame (t.items j) z (Some b)) same h)
         from (noted y me' n h) = absurd (n i (mine y (laws.refusal.to me' y b h)))
         from (refused y h) =
             let ok = was.holds.refusal j y b h in
             let by_y = mine y (laws.refusal.to ok.me y b ok.refusal) in
             let y_carried = (was.holds.decision j (record { body = y; outcome = Refused b }) h).carried i by_y in
-            let same = was.holds.unique i y x (inl y_carried) (inl x_ok.carried) by_y x_ok.by (laws.refusal.about ok.me y b ok.refusal hubs x e tells) in
+            let same = was.holds.unique i y x (inl y_carried) (inl x_ok.carried) by_y x_ok.by (laws.refusal.about ok.me y b ok.refusal ed hubs x e tells) in
             inr (subst (λ z. IsRefusedWith t j z b) same h)
 
     -- Evidence for a submission to a node was learnt from its receiver's kept reply, or from a hub's kept refusal.
     abbrev pub IsSource : ℕ → Type 0
-    IsSource j = Contains (t.items j) (Came x (Some b)) ⊎ ((k : ℕ) × IsRefusedWith t k x b)
+    IsSource j = HasCame (t.items j) x (Some b) ⊎ ((k : ℕ) × IsRefusedWith t k x b)
 
     pub learnt : (j : ℕ) → t.names j ≡ Some (p.receiver x) → ((q : Party) → Contains hubs q → (k : ℕ) × IsHubNumber net.second k × (t.names k ≡ Some q)) → IsSource j
-    learnt j to known = elim (laws.told_by hubs b x e tells) [
+    learnt j to known = elim (laws.told_by ed hubs b x e tells) [
       | inl from ↦ elim (learnt_at j (to ∙ ap Some (sym from))) [ inl h ↦ inl h | inr h ↦ inr (j, h) ]
       | inr from ↦
           let is = known (p.sender b) from in
           elim (learnt_at is.0 is.2) [
-            | inl h ↦ let no : true ≡ false = sym (hub_is is.0 is.1) ∙ no_hub_item is.0 (Came x (Some b)) h in absurd cc
+            | inl h ↦ let no : true ≡ false = sym (hub_is is.0 is.1) ∙ no_hub_item is.0 (Came h.0 x (Some b)) h.1 in absurd cc
             | inr h ↦ inr (is.0, h)
           ]
     ]

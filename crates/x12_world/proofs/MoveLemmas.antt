@@ -8,13 +8,13 @@ use Rattle.x12_envelopes.specs.declared.party.Party.{Party}
 use Rattle.x12_profile.specs.Interchange.{Bytes}
 use Rattle.x12_profile.specs.Profile.{Profile}
 use Rattle.x12_profile.specs.Laws.{Laws}
-use Rattle.x12_station.specs.History.{Item, Submitted, Came, KeptArrival}
+use Rattle.x12_station.specs.History.{HasCame, Item, Submitted, Came, KeptArrival}
 use Rattle.x12_hub.specs.Hub.{Decision, HubOutcome, Boxed, Refused}
 use Rattle.x12_world.specs.Exchange.{ExchangeVerdict, ByReceiver, ByHub, Standing, Unknown, Waiting, Judged, Learnt, Exchange, submits, writes, learns}
 use Rattle.x12_numbers.proofs.Shelf.{bytes_eq_tells}
 use Rattle.x12_profile.proofs.PartyLemmas.{party_tells}
-use Rattle.x12_world.proofs.Traces.{Trace, IsRefusedWith, Origin, submitted, replied, noted, refused, Answers, Grows, Holds}
-use Rattle.x12_world.proofs.TraceLemmas.{item_later, fresh_new, sent_fresh, fresh_by, reply_fresh, came_ok, new_fresh, new_item, new_decision, answered_carried, not_both, fresh_news}
+use Rattle.x12_world.proofs.Traces.{Trace, IsCame, IsRefusedWith, Origin, submitted, replied, noted, refused, Answers, Grows, Holds}
+use Rattle.x12_world.proofs.TraceLemmas.{new_came, item_later, fresh_new, sent_fresh, fresh_by, reply_fresh, came_ok, new_fresh, new_item, new_decision, answered_carried, not_both, fresh_news}
 use Rattle.x12_world.proofs.RoutedLemmas.{not_forwarded, refused_at_one, refused_once}
 use Rattle.x12_world.proofs.StandingLemmas.{IsExchanged, IsAcked, StandsAs, Stands, same, stays, moves_one, exchanged_of, answer_to, answer_no_group, answer_by, only_one, fresh_came_nowhere, not_new, body_is, came_is, sent_is, not_sent_and_came, waiting_judged, exchanged_later, acked_later, named_now, named_later, answers_of, by_of, carried_of, Next}
 
@@ -25,7 +25,7 @@ module _ (p : Profile) (laws : Laws p) (t t' : Trace) (g : Grows p t t') (was : 
     refuses_now x r none d = by (e x) refl (stands x)
       where
         rest : (y : Bytes) → (e y ≡ Waiting → y ≢ x) → StandsAs p t' y (e y)
-        rest y apart = (stays p laws t t' g was now) y (e y) (λ n. (not_new p laws t t' g was now) none n) (λ w q j at n. (not_new p laws t t' g was now) none n.0) (λ w q n. apart w (sym ((body_is p laws t t' g was now) (record { body = x; outcome = Refused r }) y q d n))) (λ v w q k a s n. (not_new p laws t t' g was now) none n) (stands y)
+        rest y apart = (stays p laws t t' g was now) y (e y) (λ n. (not_new p laws t t' g was now) none n) (λ w q j at n. (not_new p laws t t' g was now) none n.0.1) (λ w q n. apart w (sym ((body_is p laws t t' g was now) (record { body = x; outcome = Refused r }) y q d n))) (λ v w q k a s n. (not_new p laws t t' g was now) none n.1) (stands y)
 
         none_stands : e x ≢ Waiting → (Next p laws t t' g was now) e
         none_stands not_waiting = same p laws t t' g was now e (λ y. rest y (λ w is. not_waiting (subst (λ z. e z ≡ Waiting) is w)))
@@ -49,7 +49,7 @@ module _ (p : Profile) (laws : Laws p) (t t' : Trace) (g : Grows p t t') (was : 
 
     -- a hub boxes, or nothing is added
     nothing_now : g.new ≡ None → ((x r : Bytes) → g.decision ≢ Some (record { body = x; outcome = Refused r })) → (Next p laws t t' g was now) e
-    nothing_now none no_refusal = same p laws t t' g was now e (λ y. (stays p laws t t' g was now) y (e y) (λ n. (not_new p laws t t' g was now) none n) (λ w q j at n. (not_new p laws t t' g was now) none n.0) (λ w q n. no_refusal y q n) (λ v w q k a s n. (not_new p laws t t' g was now) none n) (stands y))
+    nothing_now none no_refusal = same p laws t t' g was now e (λ y. (stays p laws t t' g was now) y (e y) (λ n. (not_new p laws t t' g was now) none n) (λ w q j at n. (not_new p laws t t' g was now) none n.0.1) (λ w q n. no_refusal y q n) (λ v w q k a s n. (not_new p laws t t' g was now) none n.1) (stands y))
 
     -- x is submitted now
     sends_now : (x : Bytes) → g.new ≡ Some (Submitted x) → (Next p laws t t' g was now) e
@@ -102,9 +102,9 @@ module _ (p : Profile) (laws : Laws p) (t t' : Trace) (g : Grows p t t') (was : 
             now_answers v r (inr a) = inr (a.0, a.1)
 
     -- b comes now, with what is kept for it
-    module _ (b : Bytes) (k : Option Bytes) (new : g.new ≡ Some (Came b k)) (at_station : (i : ℕ) (c : Item) → Contains (t.items i) c → t.hub i ≡ false) where
+    module _ (b : Bytes) (k : Option Bytes) (new : IsCame g.new b k) (at_station : (i : ℕ) (c : Item) → Contains (t.items i) c → t.hub i ≡ false) where
       no_decision : {A : Type 0} (d : Decision) → g.decision ≡ Some d → A
-      no_decision d n = not_both p t t' g was (Came b k) d new n
+      no_decision d n = not_both p t t' g was (Came new.0 b k) d new.1 n
 
       rest : (y : Bytes) → (e y ≡ Waiting → y ≡ b → (r : Bytes) → k ≡ Some r → t.names g.node ≢ Some (p.receiver y)) → ((v : ExchangeVerdict) → e y ≡ Judged v → IsAcked p t y v b → ¬ (Contains (t.items g.node) (Submitted y))) → StandsAs p t' y (e y)
       rest y not_acked not_come = (stays p laws t t' g was now) y (e y) (λ n. (not_sent_and_came p laws t t' g was now) y b k n new)
@@ -124,9 +124,9 @@ module _ (p : Profile) (laws : Laws p) (t t' : Trace) (g : Grows p t t') (was : 
           here r kept me name = elim (party_tells me (p.receiver b)) [
             | inl own ↦
                 let at : t.names g.node ≡ Some (p.receiver b) = name ∙ ap Some own.1 in
-                let came : g.new ≡ Some (Came b (Some r)) = new ∙ ap (λ z. Some (Came b z)) kept in
-                (moves_one p laws t t' g was now) e b (Judged (ByReceiver (p.accepts b r))) (writes (ByReceiver (p.accepts b r)) is refl)
-                ((exchanged_later p laws t t' g was now) b ex, r, inl (g.node, (named_later p laws t t' g was now) g.node (p.receiver b) at, new_item p t t' g was (Came b (Some r)) came, refl), λ a. (fresh_came_nowhere p laws t t' g was now) r a.0 a.1 (reply_fresh p t t' g was b r came) a.3)
+                let came : IsCame g.new b (Some r) = (new.0, new.1 ∙ ap (λ z. Some (Came new.0 b z)) kept) in
+                (moves_one p laws t t' g was now) e b (Judged (ByReceiver (p.result b r))) (writes (ByReceiver (p.result b r)) is refl)
+                ((exchanged_later p laws t t' g was now) b ex, r, inl (g.node, (named_later p laws t t' g was now) g.node (p.receiver b) at, new_came p t t' g was b (Some r) came, refl), λ a. (fresh_came_nowhere p laws t t' g was now) r a.0 a.1 (reply_fresh p t t' g was b r came) a.3)
                 (λ y apart. rest y (λ w y_is. absurd (apart y_is)) (λ v w a s. not_submitted y v ex a)) (λ unknown. absurd (clash (sym unknown ∙ is)))
             | inr other ↦ same p laws t t' g was now e (λ y. rest y (λ w y_is q kq at. other.1 (some_is (sym name ∙ at ∙ ap (λ z. Some (p.receiver z)) y_is))) (λ v w a s. not_submitted y v ex a))
           ]
@@ -142,7 +142,7 @@ module _ (p : Profile) (laws : Laws p) (t t' : Trace) (g : Grows p t t') (was : 
             where
               clash : {r : Bytes} → None ≡ Some r → ⊥
               clash z = cc
-          by (Some r) kept = let at = fresh_by p t t' g was r (reply_fresh p t t' g was b r (new ∙ ap (λ z. Some (Came b z)) kept)) in here r kept (p.sender r) at
+          by (Some r) kept = let at = fresh_by p t t' g was r (reply_fresh p t t' g was b r (new.0, new.1 ∙ ap (λ z. Some (Came new.0 b z)) kept)) in here r kept (p.sender r) at
 
       -- it is none that waits for its verdict; does it acknowledge one?
       module _ (not_waiting : e b ≢ Waiting) where
@@ -150,19 +150,19 @@ module _ (p : Profile) (laws : Laws p) (t t' : Trace) (g : Grows p t t') (was : 
         quietly not_come = same p laws t t' g was now e (λ y. rest y (λ w y_is. absurd (not_waiting (subst (λ z. e z ≡ Waiting) y_is w))) (λ v w a s. not_come y v w a s))
 
         -- what a hub refused came nowhere
-        boxed_refused : {A : Type 0} (y r q : Bytes) (j l : ℕ) → IsExchanged p t y → Contains (t.items j) (Came y (Some r)) → IsRefusedWith t l y q → A
+        boxed_refused : {A : Type 0} (y r q : Bytes) (j l : ℕ) → IsExchanged p t y → HasCame (t.items j) y (Some r) → IsRefusedWith t l y q → A
         boxed_refused y r q j l ex came d =
             let by = (by_of p laws t t' g was now) y ex in
             let own = at_station ex.0 (Submitted y) ex.1 in
             let boxed = (was.came j y (Some r) came).routed ex.0 by own in
-            not_forwarded p t was y ex.0 by own l q d j (at_station j (Came y (Some r)) came) boxed.0 boxed.1 boxed.2
+            not_forwarded p t was y ex.0 by own l q d j (at_station j (Came came.0 y (Some r)) came.1) boxed.0 boxed.1 boxed.2
 
         -- one acknowledgment of an interchange with a verdict
         one_ack : (y : Bytes) (v u : ExchangeVerdict) (r q : Bytes) → IsExchanged p t y → IsAcked p t y v r → IsAcked p t y u q → r ≡ q
         one_ack y v u r q ex (inl a) (inl c) =
             let same_node = was.names_apart a.0 c.0 (p.receiver y) a.1 c.1 in
             let one = was.filed_first a.0 y (Some r) a.2 in
-            let two = was.filed_first a.0 y (Some q) (subst (λ z. Contains (t.items z) (Came y (Some q))) (sym same_node) c.2) in
+            let two = was.filed_first a.0 y (Some q) (subst (λ z. HasCame (t.items z) y (Some q)) (sym same_node) c.2) in
             ap reply_or (sym one ∙ two)
           where
             reply_or : Option KeptArrival → Bytes
@@ -195,7 +195,7 @@ module _ (p : Profile) (laws : Laws p) (t t' : Trace) (g : Grows p t t') (was : 
             judged v is ex r a = elim (eqb_tells ex.0 g.node) [
               | inl here ↦ elim (bytes_eq_tells b r) [
                 | inl this ↦ (moves_one p laws t t' g was now) e y0 (Learnt v) (learns v is refl)
-                    ((exchanged_later p laws t t' g was now) y0 ex, r, (acked_later p laws t t' g was now) y0 v r a, (g.node, k, item_later p t t' g was g.node (Submitted y0) (subst (λ z. Contains (t.items z) (Submitted y0)) here.1 ex.1), subst (λ z. Contains (t'.items g.node) (Came z k)) this.1 (new_item p t t' g was (Came b k) new)))
+                    ((exchanged_later p laws t t' g was now) y0 ex, r, (acked_later p laws t t' g was now) y0 v r a, (g.node, k, item_later p t t' g was g.node (Submitted y0) (subst (λ z. Contains (t.items z) (Submitted y0)) here.1 ex.1), subst (λ z. HasCame (t'.items g.node) z k) this.1 (new_came p t t' g was b k new)))
                     (λ y apart. rest y (λ w y_is. absurd (not_waiting (subst (λ z. e z ≡ Waiting) y_is w))) (λ u w c s. apart (is_y0 y u w c))) (λ unknown. absurd (clash (sym unknown ∙ is)))
                 | inr other ↦ quietly (λ y u w c s. other.1 (one_ack y0 u v b r ex (subst (λ z. IsAcked p t z u b) (is_y0 y u w c) c) a))
               ]
@@ -266,4 +266,4 @@ module _ (p : Profile) (laws : Laws p) (t t' : Trace) (g : Grows p t t') (was : 
             decides (Boxed node item) is = nothing_now new (λ x r at. clash (sym is ∙ outcome_is x r at))
             decides (Refused r) is = refuses_now c.body r new (d ∙ ap (λ z. Some (record { body = c.body; outcome = z })) is)
         by (Some (Submitted x)) new d is = sends_now x new
-        by (Some (Came b k)) new d is = comes_now b k new at_station
+        by (Some (Came ed b k)) new d is = comes_now b k (ed, new) at_station

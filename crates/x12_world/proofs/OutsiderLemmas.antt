@@ -7,11 +7,12 @@ use Rattle.std.proofs.lemmas.Bool.Decides.{eqb_tells}
 use Rattle.x12_envelopes.specs.declared.party.Party.{Party}
 use Rattle.x12_envelopes.specs.declared.moment.Moment.{Moment}
 use Rattle.x12_core.specs.Ask as ask
+use Rattle.x12_profile.specs.declared.edition.Edition.{Edition}
 use Rattle.x12_profile.specs.Interchange.{Bytes, PlaceOfSet, PlacedEvidence, Book, book_for, is_within}
 use Rattle.x12_profile.specs.Profile.{Profile}
 use Rattle.x12_profile.specs.Laws.{Laws}
 use Rattle.x12_station.specs.History.{Came, KeptArrival, filed, submissions, first_told, told, told_in, fate_in, posted_under}
-use Rattle.x12_station.specs.Station.{Station}
+use Rattle.x12_station.specs.Station.{Station, edition_next}
 use Rattle.x12_hub.specs.Hub.{Hub, HubStep, deposit}
 use Rattle.x12_core.specs.Packet.{Packet, PacketName, Load, Deposit, Refusal, Taken, carried}
 use Rattle.x12_world.specs.Packet.{packet_of}
@@ -42,7 +43,7 @@ use Rattle.x12_acks.specs.Submission.{TransactionSetKey}
 pub record Adds (s s' : Station) (b : Bytes) : Type 0 where
   pub me : s'.me ≡ s.me
   pub hubs : s'.hubs ≡ s.hubs
-  pub items : (s'.items ≡ s.items) ⊎ ((r : Option Bytes) × (s'.items ≡ s.items ++ Came b r ∷ []))
+  pub items : (s'.items ≡ s.items) ⊎ ((ed : Edition) × (r : Option Bytes) × (s'.items ≡ s.items ++ Came ed b r ∷ []))
 
 abbrev pub AddsTo : Node → Node → Bytes → Type 0
 AddsTo (IsStation s) n b = (s' : Station) × (n ≡ IsStation s') × Adds s s' b
@@ -57,10 +58,10 @@ module _ (p : Profile) (m : Moment) (s : Station) (b : Bytes) where
 
   new_adds : (book : Book) (step : StationStep) → arrive_new p s m b book ≡ Some step → AddsStep step
   new_adds book step e =
-      let r : Bytes = p.reply s.me s.agreements m book b in
-      elim (if_cases (p.needs s.me s.agreements b).reply (if is_within book then Some (record { station = filed_now p s b (Some r) book; sends = r ∷ [] }) else None) (Some (record { station = filed_now p s b None s.book; sends = [] })) (Some step) e) [
-        | inl due ↦ subst AddsStep (some_inj (if_some_parts (is_within book) (Some (record { station = filed_now p s b (Some r) book; sends = r ∷ [] })) step due.1).1) (record { me = refl; hubs = refl; items = inr (Some r, refl) })
-        | inr none ↦ subst AddsStep (some_inj none.1) (record { me = refl; hubs = refl; items = inr (None, refl) })
+      let r : Bytes = p.reply (edition_next s) s.me s.agreements m book b in
+      elim (if_cases (p.needs (edition_next s) s.me s.agreements b).reply (if is_within book then Some (record { station = filed_now p s b (Some r) book; sends = r ∷ [] }) else None) (Some (record { station = filed_now p s b None s.book; sends = [] })) (Some step) e) [
+        | inl due ↦ subst AddsStep (some_inj (if_some_parts (is_within book) (Some (record { station = filed_now p s b (Some r) book; sends = r ∷ [] })) step due.1).1) (record { me = refl; hubs = refl; items = inr (edition_next s, Some r, refl) })
+        | inr none ↦ subst AddsStep (some_inj none.1) (record { me = refl; hubs = refl; items = inr (edition_next s, None, refl) })
       ]
 
   other_adds : (book : Book) (step : StationStep) → arrive_other p s m b book ≡ Some step → AddsStep step
@@ -72,7 +73,7 @@ module _ (p : Profile) (m : Moment) (s : Station) (b : Bytes) where
       ]
 
   at_adds : (found : Option KeptArrival) (step : StationStep) → arrive_at p s m b found ≡ Some step → AddsStep step
-  at_adds None step e = new_adds (book_for s.book (p.needs s.me s.agreements b)) step e
+  at_adds None step e = new_adds (book_for s.book (p.needs (edition_next s) s.me s.agreements b)) step e
   at_adds (Some f) step e = elim (bytes_eq_tells f.body b) [
     | inl same ↦ subst AddsStep (some_inj (rw (same.0) at e)) (nothing_new s b)
     | inr apart ↦ other_adds (book_for s.book (record { reply = true; group = false })) step (rw (apart.0) at e)
@@ -177,26 +178,26 @@ module _ (p : Profile) (laws : Laws p) (net : Network) (w : World) (was : Sound 
   no_node : (party : Party) → IsNode w party → p.sender b ≢ party
   no_node party node e = unnamed w.nodes (p.sender b) out node.0 (node.1 ∙ ap Some (sym e))
 
-  tells_nothing : (i : ℕ) (s : Station) → StationAt w i s → (x : Bytes) → IsNode w (p.receiver x) → told p s.me s.hubs x b ≡ []
-  tells_nothing i s at x to = by (p.refuses s.me b)
+  tells_nothing : (i : ℕ) (s : Station) → StationAt w i s → (x : Bytes) → IsNode w (p.receiver x) → (ed : Edition) (r : Option Bytes) → told p s.me s.hubs x (Came ed b r) ≡ []
+  tells_nothing i s at x to ed r = by (p.refuses ed s.me b)
     where
-      none : (e : PlacedEvidence) → ¬ (Contains (p.evidence s.hubs b x) e)
-      none e h = elim (laws.told_by s.hubs b x e h) [
+      none : (e : PlacedEvidence) → ¬ (Contains (p.evidence ed s.hubs b x) e)
+      none e h = elim (laws.told_by ed s.hubs b x e h) [
         | inl from ↦ no_node (p.receiver x) to from
         | inr from ↦ let k = hub_believed p laws net w was i s at (p.sender b) from in no_node (p.sender b) (k.0, k.2) refl
       ]
 
-      by : (t : Bool) → (if t then [] else p.evidence s.hubs b x) ≡ []
+      by : (t : Bool) → (if t then [] else p.evidence ed s.hubs b x) ≡ []
       by true = refl
-      by false = empty_if (p.evidence s.hubs b x) none
+      by false = empty_if (p.evidence ed s.hubs b x) none
 
   fate_same : (i : ℕ) (s s' : Station) → StationAt w i s → Adds s s' b → (x : Bytes) → Contains (submissions s.items) x → IsNode w (p.receiver x) → (k : PlaceOfSet) → fate_in p s'.me s'.hubs s'.items x k ≡ fate_in p s.me s.hubs s.items x k
   fate_same i s s' at adds x sent to k = by adds.items
     where
-      by : (s'.items ≡ s.items) ⊎ ((r : Option Bytes) × (s'.items ≡ s.items ++ Came b r ∷ [])) → fate_in p s'.me s'.hubs s'.items x k ≡ fate_in p s.me s.hubs s.items x k
+      by : (s'.items ≡ s.items) ⊎ ((ed : Edition) × (r : Option Bytes) × (s'.items ≡ s.items ++ Came ed b r ∷ [])) → fate_in p s'.me s'.hubs s'.items x k ≡ fate_in p s.me s.hubs s.items x k
       by (inl same) = rw (adds.me, adds.hubs, same) refl
-      by (inr more) = rw (adds.me, adds.hubs, more.1) (ap (first_told k) (told_append p s.me s.hubs s.items (Came b more.0 ∷ []) x (in_submissions s.items x sent)
-          ∙ ap (λ l. told_in p s.me s.hubs s.items x ++ (l ++ [])) (tells_nothing i s at x to) ∙ append-nil (told_in p s.me s.hubs s.items x)))
+      by (inr more) = rw (adds.me, adds.hubs, more.2) (ap (first_told k) (told_append p s.me s.hubs s.items (Came more.0 b more.1 ∷ []) x (in_submissions s.items x sent)
+          ∙ ap (λ l. told_in p s.me s.hubs s.items x ++ (l ++ [])) (tells_nothing i s at x to more.0 more.1) ∙ append-nil (told_in p s.me s.hubs s.items x)))
 
   posted_same : (s s' : Station) → Adds s s' b → (k : TransactionSetKey) → IsNode w k.sender → posted_under p k s'.items ≡ posted_under p k s.items
   posted_same s s' adds k node = by adds.items
@@ -204,9 +205,9 @@ module _ (p : Profile) (laws : Laws p) (net : Network) (w : World) (was : Sound 
       unlike : (is_same_party k.sender (p.sender b) && (k.icn == p.number b)) ≡ false
       unlike = elim (party_tells k.sender (p.sender b)) [ inl same ↦ absurd (no_node k.sender node (sym same.1)) | inr apart ↦ rw (apart.0) refl ]
 
-      by : (s'.items ≡ s.items) ⊎ ((r : Option Bytes) × (s'.items ≡ s.items ++ Came b r ∷ [])) → posted_under p k s'.items ≡ posted_under p k s.items
+      by : (s'.items ≡ s.items) ⊎ ((ed : Edition) × (r : Option Bytes) × (s'.items ≡ s.items ++ Came ed b r ∷ [])) → posted_under p k s'.items ≡ posted_under p k s.items
       by (inl same) = rw same refl
-      by (inr more) = rw more.1 (posted-append p k s.items (Came b more.0 ∷ []) ∙ ap (λ l. posted_under p k s.items ++ l) (other_posts_nothing p k b more.0 unlike) ∙ append-nil (posted_under p k s.items))
+      by (inr more) = rw more.2 (posted-append p k s.items (Came more.0 b more.1 ∷ []) ∙ ap (λ l. posted_under p k s.items ++ l) (other_posts_nothing p k more.0 b more.1 unlike) ∙ append-nil (posted_under p k s.items))
 
 pub outsiders_move_nothing : (p : Profile) → Laws p → (net : Network) (w : World) → Sound p net w → OutsidersMoveNothing p w
 outsiders_move_nothing p laws net w was e b brings out = record {

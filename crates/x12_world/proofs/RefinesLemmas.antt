@@ -4,10 +4,13 @@ use mathlib.Core.Path.{sym, ap, subst, ◌∙◌}
 use mathlib.Core.Logic.{inl, inr}
 use Rattle.std.proofs.lemmas.List.Elements.{filter_passes, All-contains}
 use Rattle.x12_envelopes.specs.declared.party.Party.{Party}
+use Rattle.x12_profile.specs.declared.edition.Edition.{Edition}
+use Rattle.x12_profile.specs.declared.edition.Edition.TheVariants.{First}
+use Rattle.x12_profile.specs.Result.{Rejects, takes, fate_of_result}
 use Rattle.x12_profile.specs.Interchange.{Bytes, PlacedTransactionSet, PlacedEvidence}
 use Rattle.x12_profile.specs.Profile.{Profile}
 use Rattle.x12_profile.specs.Laws.{Laws}
-use Rattle.x12_station.specs.History.{posting_of, Item, Submitted, Came, KeptArrival, Posting, filed, arrivals, first_told, told_in, fate_in, posted_by, postings, posted_under, key_of}
+use Rattle.x12_station.specs.History.{posting_of, Item, Submitted, Came, KeptArrival, Posting, filed, HasCame, arrivals, first_told, told_in, fate_in, posted_by, postings, posted_under, key_of}
 use Rattle.x12_station.specs.Station.{Station}
 use Rattle.x12_hub.specs.Hub.{Refused}
 use Rattle.x12_core.specs.Node.{Node, IsHub, IsStation, is_hub, party_of_node}
@@ -18,11 +21,11 @@ use Rattle.x12_world.proofs.RoutedLemmas.{refused_at_one, refused_once}
 use Rattle.x12_world.specs.World.{World, Event, StationAt}
 use Rattle.x12_world.specs.Held.{IsKept}
 use Rattle.x12_world.specs.Traffic.{IsNode, HasSubmitted}
-use Rattle.x12_world.specs.Exchange.{ExchangeVerdict, ByReceiver, ByHub, verdict_accepts, Standing, Unknown, Waiting, Judged, Learnt, Exchange, fate_of, is_posted, IsStationName, Refines, Follows, IsStepOrNone, empty_exchange}
+use Rattle.x12_world.specs.Exchange.{ExchangeVerdict, ByReceiver, ByHub, result_of, Standing, Unknown, Waiting, Judged, Learnt, Exchange, fate_of, is_posted, IsStationName, Refines, Follows, IsStepOrNone, empty_exchange}
 use Rattle.x12_station.proofs.ListLemmas.{contains_map, contains_filter, contains_flat_map}
 use Rattle.x12_numbers.proofs.Shelf.{none_in_nil, some_inj}
 use Rattle.x12_profile.proofs.PartyLemmas.{party_tells}
-use Rattle.x12_station.proofs.HistoryLemmas.{submitted_in, in_arrivals, came_in_arrivals, told_accepted, told_rejected, filed_found, posted_from}
+use Rattle.x12_station.proofs.HistoryLemmas.{submitted_in, in_arrivals, came_in_arrivals, told_final_by, filed_found, posted_from}
 use Rattle.x12_world.proofs.Traces.{Trace, IsBy, IsRefusedWith, Origin, submitted, replied, noted, refused, Grows, CameOk, ReplyOk}
 use Rattle.x12_world.proofs.WorldLemmas.{trace_of, Sound}
 use Rattle.x12_world.proofs.LearntLemmas.{by_verdict, name_at, items_at, decisions_at, hub_of, no_hub_item}
@@ -33,6 +36,8 @@ use Rattle.x12_world.proofs.StandingLemmas.{IsExchanged, IsAcked, IsHandledBy, S
 use Rattle.x12_world.proofs.MoveLemmas.{next}
 use Rattle.x12_world.proofs.RunLemmas.{new_sound, no_item, happens_onward, happens_grows}
 use Rattle.x12_world.specs.Run.{run, happens, new_world}
+use Rattle.x12_acks.specs.Evidence.{FinalFate, accepted, rejected}
+use Rattle.x12_outbound.specs.Fate.{ended}
 use Rattle.x12_outbound.specs.declared.fate.Fate.TheVariants.{Pending, Accepted, Rejected}
 use Rattle.x12_outbound.specs.declared.fate.Fate.{Fate}
 
@@ -82,32 +87,32 @@ module _ (p : Profile) (laws : Laws p) (net : Network) (w : World) (was : Sound 
     to = (ex.2, ex.3)
 
     -- what was told came in the acknowledgment
-    told_by_ack : (v : ExchangeVerdict) (r : Bytes) → IsAcked p t x v r → (ev : PlacedEvidence) → Contains (told_in p s.me s.hubs s.items x) ev → Contains (arrivals s.items) r × (ev.accepts ≡ verdict_accepts v ev.place)
+    told_by_ack : (v : ExchangeVerdict) (r : Bytes) → IsAcked p t x v r → (ev : PlacedEvidence) → Contains (told_in p s.me s.hubs s.items x) ev → Contains (arrivals s.items) r × (ev.fate ≡ fate_of_result (result_of v ev.place))
     told_by_ack v r acked ev told = by (source p laws net w was s x h to ev told) acked
       where
-        by : (q : Bytes) × Contains (arrivals s.items) q × Contains (p.evidence s.hubs q x) ev × (Contains (t.items to.0) (Came x (Some q)) ⊎ ((k : ℕ) × IsRefusedWith t k x q)) → IsAcked p t x v r → Contains (arrivals s.items) r × (ev.accepts ≡ verdict_accepts v ev.place)
-        by (q, came, tells, inl kept) (inl a) =
+        by : (ed : Edition) × (q : Bytes) × Contains (arrivals s.items) q × Contains (p.evidence ed s.hubs q x) ev × (HasCame (t.items to.0) x (Some q) ⊎ ((k : ℕ) × IsRefusedWith t k x q)) → IsAcked p t x v r → Contains (arrivals s.items) r × (ev.fate ≡ fate_of_result (result_of v ev.place))
+        by (ed, q, came, tells, inl kept) (inl a) =
             let node = was.holds.names_apart to.0 a.0 (p.receiver x) to.1 a.1 in
-            let q_is : q ≡ r = reply_inj p laws net w was x q r (sym (was.holds.filed_first a.0 x (Some q) (subst (λ j. Contains (t.items j) (Came x (Some q))) node kept)) ∙ was.holds.filed_first a.0 x (Some r) a.2) in
-            let ks = kept_tells p laws net w was h.0 s h.1 x h.2 q to.0 kept to.1 s.hubs in
-            let ve = by_verdict ks.0 (p.sets x) ev (rw ks.1 at tells) in
-            let value : ev.accepts ≡ p.accepts x q ev.place = ve.0 ∙ ap ks.0 (sym ve.3) ∙ sym (ks.2 ve.1 ve.2) ∙ ap (p.accepts x q) ve.3 in
-            (subst (Contains (arrivals s.items)) q_is came, value ∙ ap (λ z. p.accepts x z ev.place) q_is ∙ ap (λ z. verdict_accepts z ev.place) (sym a.3))
-        by (q, came, tells, inl kept) (inr a) = refused_nowhere p laws net w was h.0 s h.1 x h.2 a.0 r a.1 to.0 (Some q) kept
-        by (q, came, tells, inr d) (inl a) = refused_nowhere p laws net w was h.0 s h.1 x h.2 d.0 q d.1 a.0 (Some r) a.2
-        by (q, came, tells, inr d) (inr a) =
+            let q_is : q ≡ r = reply_inj p laws net w was x q r (sym (was.holds.filed_first a.0 x (Some q) (subst (λ j. HasCame (t.items j) x (Some q)) node kept)) ∙ was.holds.filed_first a.0 x (Some r) a.2) in
+            let ks = kept_tells p laws net w was h.0 s h.1 x h.2 q to.0 kept to.1 in
+            let ve = by_verdict ks.0 (p.sets x) ev (rw (ks.1 ed s.hubs) at tells) in
+            let value : ev.fate ≡ fate_of_result (p.result x q ev.place) = ve.0 ∙ ap fate_of_result (ap ks.0 (sym ve.3) ∙ sym (ks.2 ve.1 ve.2) ∙ ap (p.result x q) ve.3) in
+            (subst (Contains (arrivals s.items)) q_is came, value ∙ ap (λ z. fate_of_result (p.result x z ev.place)) q_is ∙ ap (λ z. fate_of_result (result_of z ev.place)) (sym a.3))
+        by (ed, q, came, tells, inl kept) (inr a) = refused_nowhere p laws net w was h.0 s h.1 x h.2 a.0 r a.1 to.0 (Some q) kept
+        by (ed, q, came, tells, inr d) (inl a) = refused_nowhere p laws net w was h.0 s h.1 x h.2 d.0 q d.1 a.0 (Some r) a.2
+        by (ed, q, came, tells, inr d) (inr a) =
             let item = sent_item p laws net w was s x h in
             let one = refused_at_one p t was.holds x h.0 (was.holds.sent h.0 x item).by (no_hub_item p laws net w was h.0 (Submitted x) item) d.0 q d.1 a.0 r a.1 in
             let q_is : q ≡ r = refused_once p t was.holds x a.0 q r (subst (λ z. IsRefusedWith t z x q) one d.1) a.1 in
-            let ve = by_verdict (λ k. false) (p.sets x) ev (rw (refused_tells p laws net w was h.0 s h.1 x h.2 d.0 q d.1) at tells) in
-            (subst (Contains (arrivals s.items)) q_is came, ve.0 ∙ ap (λ z. verdict_accepts z ev.place) (sym a.2))
+            let ve = by_verdict (λ k. Rejects) (p.sets x) ev (rw (refused_tells p laws net w was h.0 s h.1 x h.2 ed d.0 q d.1) at tells) in
+            (subst (Contains (arrivals s.items)) q_is came, ve.0 ∙ ap (λ z. fate_of_result (result_of z ev.place)) (sym a.2))
 
     no_ack_no_evidence : ((v : ExchangeVerdict) (r : Bytes) → ¬ (IsAcked p t x v r)) → told_in p s.me s.hubs s.items x ≡ []
     no_ack_no_evidence none = empty_if (told_in p s.me s.hubs s.items x) (λ ev told. by (source p laws net w was s x h to ev told))
       where
-        by : {ev : PlacedEvidence} → (q : Bytes) × Contains (arrivals s.items) q × Contains (p.evidence s.hubs q x) ev × (Contains (t.items to.0) (Came x (Some q)) ⊎ ((k : ℕ) × IsRefusedWith t k x q)) → ⊥
-        by (q, came, tells, inl kept) = none (ByReceiver (p.accepts x q)) q (inl (to.0, to.1, kept, refl))
-        by (q, came, tells, inr d) = none ByHub q (inr (d.0, d.1, refl))
+        by : {ev : PlacedEvidence} → (ed : Edition) × (q : Bytes) × Contains (arrivals s.items) q × Contains (p.evidence ed s.hubs q x) ev × (HasCame (t.items to.0) x (Some q) ⊎ ((k : ℕ) × IsRefusedWith t k x q)) → ⊥
+        by (ed, q, came, tells, inl kept) = none (ByReceiver (p.result x q)) q (inl (to.0, to.1, kept, refl))
+        by (ed, q, came, tells, inr d) = none ByHub q (inr (d.0, d.1, refl))
 
     -- an acknowledgment that didn't come told nothing
     unhandled_no_evidence : (v : ExchangeVerdict) (r : Bytes) → IsAcked p t x v r → ¬ (IsHandledBy p t x r) → told_in p s.me s.hubs s.items x ≡ []
@@ -117,34 +122,31 @@ module _ (p : Profile) (laws : Laws p) (net : Network) (w : World) (was : Sound 
 
     kept_of : (v : ExchangeVerdict) (r : Bytes) → IsAcked p t x v r → IsKept p w x r
     kept_of v r (inl a) =
-        let b = has_items a.0 (Came x (Some r)) a.2 (node_at w.nodes a.0) refl in
+        let b = has_items a.0 (Came a.2.0 x (Some r)) a.2.1 (node_at w.nodes a.0) refl in
         let me : Some b.0.me ≡ Some (p.receiver x) = sym (name_at p laws net w was a.0 b.0 b.1) ∙ a.1 in
         inl (a.0, b.0, b.1, some_inj me, rw (items_at p laws net w was a.0 b.0 b.1) at a.2)
     kept_of v r (inr a) =
         let k = hub_of p laws net w was a.0 (record { body = x; outcome = Refused r }) a.1 in
         inr (a.0, k.0, k.1, rw (decisions_at p laws net w was a.0 k.0 k.1) at a.1)
 
-    handled_fate : (v : ExchangeVerdict) (r : Bytes) → IsAcked p t x v r → IsHandledBy p t x r → (ts : PlacedTransactionSet) → Contains (p.sets x) ts → fate_in p s.me s.hubs s.items x ts.place ≡ (if verdict_accepts v ts.place then Accepted else Rejected)
+    handled_fate : (v : ExchangeVerdict) (r : Bytes) → IsAcked p t x v r → IsHandledBy p t x r → (ts : PlacedTransactionSet) → Contains (p.sets x) ts → fate_in p s.me s.hubs s.items x ts.place ≡ ended (fate_of_result (result_of v ts.place))
     handled_fate v r acked handled ts has = by (fate_in p s.me s.hubs s.items x ts.place) refl
       where
         here : handled.0 ≡ h.0
         here = was.holds.names_apart handled.0 h.0 (p.sender x) (was.holds.sent handled.0 x handled.2).by (was.holds.sent h.0 x (sent_item p laws net w was s x h)).by
 
         came : Contains (arrivals s.items) r
-        came = came_in_arrivals s.items r handled.1 (subst (λ l. Contains l (Came r handled.1)) (items_at p laws net w was h.0 s h.1) (subst (λ i. Contains (t.items i) (Came r handled.1)) here handled.3))
+        came = came_in_arrivals s.items r handled.1 (subst (λ l. HasCame l r handled.1) (items_at p laws net w was h.0 s h.1) (subst (λ i. HasCame (t.items i) r handled.1) here handled.3))
 
-        by : (f : Fate) → fate_in p s.me s.hubs s.items x ts.place ≡ f → f ≡ (if verdict_accepts v ts.place then Accepted else Rejected)
+        told_so : (f : FinalFate) → fate_in p s.me s.hubs s.items x ts.place ≡ ended f → ended f ≡ ended (fate_of_result (result_of v ts.place))
+        told_so f is =
+            let ev = told_final_by ts.place (told_in p s.me s.hubs s.items x) f is in
+            ap ended (sym ev.3 ∙ (told_by_ack v r acked ev.0 ev.1).1 ∙ ap (λ k. fate_of_result (result_of v k)) ev.2)
+
+        by : (f : Fate) → fate_in p s.me s.hubs s.items x ts.place ≡ f → f ≡ ended (fate_of_result (result_of v ts.place))
         by Pending is = absurd (kept_settles p laws net w was h.0 s h.1 x ts h.2 has r (kept_of v r acked) came is)
-        by Accepted is =
-            let ev = told_accepted ts.place (told_in p s.me s.hubs s.items x) is in
-            let value = (told_by_ack v r acked ev.0 ev.1).1 in
-            let yes' : verdict_accepts v ts.place ≡ true = ap (verdict_accepts v) (sym ev.2) ∙ sym value ∙ ev.3 in
-            rw yes' refl
-        by Rejected is =
-            let ev = told_rejected ts.place (told_in p s.me s.hubs s.items x) is in
-            let value = (told_by_ack v r acked ev.0 ev.1).1 in
-            let no' : verdict_accepts v ts.place ≡ false = ap (verdict_accepts v) (sym ev.2) ∙ sym value ∙ ev.3 in
-            rw no' refl
+        by Accepted is = told_so accepted is
+        by Rejected is = told_so rejected is
 
     fate_as : (ts : PlacedTransactionSet) → Contains (p.sets x) ts → (st : Standing) → StandsAs p t x st → fate_in p s.me s.hubs s.items x ts.place ≡ fate_of st ts.place
     fate_as ts has Unknown st = absurd (st ex)
@@ -160,7 +162,7 @@ module _ (p : Profile) (laws : Laws p) (net : Network) (w : World) (was : Sound 
         by None is = refl
         by (Some f) is = reply f.reply refl
           where
-            found : Contains (t.items j) (Came f.body f.reply) × (p.sender f.body ≡ p.sender x) × (p.number f.body ≡ p.number x)
+            found : HasCame (t.items j) f.body f.reply × (p.sender f.body ≡ p.sender x) × (p.number f.body ≡ p.number x)
             found = filed_found p (t.items j) (p.sender x) (p.number x) f is
 
             ok : IsBy p t h.0 x
@@ -173,14 +175,14 @@ module _ (p : Profile) (laws : Laws p) (net : Network) (w : World) (was : Sound 
             body = was.holds.unique h.0 f.body x (inl ((was.holds.came j f.body f.reply found.0).carried h.0 by_f)) (inl (was.holds.sent h.0 x (sent_item p laws net w was s x h)).carried) by_f ok found.2
 
             reply : (o : Option Bytes) → f.reply ≡ o → posted_from p (key_of p x ts.place) (Some f) ≡ []
-            reply None is_none = ap (λ z. posted_under p (key_of p x ts.place) (Came f.body z ∷ [])) is_none
-            reply (Some r) is_some = absurd (none (ByReceiver (p.accepts x r)) r (inl (j, name, subst (λ z. Contains (t.items j) (Came z (Some r))) body (subst (λ z. Contains (t.items j) (Came f.body z)) is_some found.0), refl)))
+            reply None is_none = ap (λ z. posted_under p (key_of p x ts.place) (Came First f.body z ∷ [])) is_none
+            reply (Some r) is_some = absurd (none (ByReceiver (p.result x r)) r (inl (j, name, subst (λ z. HasCame (t.items j) z (Some r)) body (subst (λ z. HasCame (t.items j) f.body z) is_some found.0), refl)))
 
-    acked_posts : (ts : PlacedTransactionSet) → Contains (p.sets x) ts → (j : ℕ) → t.names j ≡ Some (p.receiver x) → (v : ExchangeVerdict) (r : Bytes) → IsAcked p t x v r → posted_under p (key_of p x ts.place) (t.items j) ≡ (if verdict_accepts v ts.place then ts.bytes ∷ [] else [])
+    acked_posts : (ts : PlacedTransactionSet) → Contains (p.sets x) ts → (j : ℕ) → t.names j ≡ Some (p.receiver x) → (v : ExchangeVerdict) (r : Bytes) → IsAcked p t x v r → posted_under p (key_of p x ts.place) (t.items j) ≡ (if takes (result_of v ts.place) then ts.bytes ∷ [] else [])
     acked_posts ts has j name v r (inl a) =
         let node = was.holds.names_apart a.0 j (p.receiver x) a.1 name in
-        posts_accepted p laws net w was h.0 s h.1 x ts h.2 has r j (subst (λ z. Contains (t.items z) (Came x (Some r))) node a.2) (verdict_accepts v ts.place) (ap (λ z. verdict_accepts z ts.place) (sym a.3))
-    acked_posts ts has j name v r (inr a) = posts_nothing p laws net w was h.0 s h.1 x ts h.2 has a.0 r a.1 j ∙ ap (λ z. if verdict_accepts z ts.place then ts.bytes ∷ [] else []) (sym a.2)
+        posts_accepted p laws net w was h.0 s h.1 x ts h.2 has r j (subst (λ z. HasCame (t.items z) x (Some r)) node a.2) (takes (result_of v ts.place)) (ap (λ z. takes (result_of z ts.place)) (sym a.3))
+    acked_posts ts has j name v r (inr a) = posts_nothing p laws net w was h.0 s h.1 x ts h.2 has a.0 r a.1 j ∙ ap (λ z. if takes (result_of z ts.place) then ts.bytes ∷ [] else []) (sym a.2)
 
     posted_as : (ts : PlacedTransactionSet) → Contains (p.sets x) ts → (j : ℕ) → t.names j ≡ Some (p.receiver x) → (st : Standing) → StandsAs p t x st → posted_under p (key_of p x ts.place) (t.items j) ≡ (if is_posted st ts.place then ts.bytes ∷ [] else [])
     posted_as ts has j name Unknown st = absurd (st ex)
@@ -201,17 +203,17 @@ module _ (p : Profile) (laws : Laws p) (net : Network) (w : World) (was : Sound 
 
       by : (c : Item) → Contains a.items c → Contains (posted_by p c) q → (x : Bytes) × (ts : PlacedTransactionSet) × (e x ≢ Unknown) × (p.receiver x ≡ a.me) × Contains (p.sets x) ts × (q ≡ posting_of p x ts)
       by (Submitted x) came in_it = none_in_nil q in_it
-      by (Came b None) came in_it = none_in_nil q in_it
-      by (Came b (Some r)) came in_it = origin_of (was.holds.origin from.0 b (inl (ok.carried from.0 is_by)) is_by)
+      by (Came ed b None) came in_it = none_in_nil q in_it
+      by (Came ed b (Some r)) came in_it = origin_of (was.holds.origin from.0 b (inl (ok.carried from.0 is_by)) is_by)
         where
-          set_of : (u : PlacedTransactionSet) × Contains (filter (λ u. p.accepts b r u.place) (p.sets b)) u × (posting_of p b u ≡ q)
-          set_of = contains_map (posting_of p b) (filter (λ u. p.accepts b r u.place) (p.sets b)) q in_it
+          set_of : (u : PlacedTransactionSet) × Contains (filter (λ u. takes (p.result b r u.place)) (p.sets b)) u × (posting_of p b u ≡ q)
+          set_of = contains_map (posting_of p b) (filter (λ u. takes (p.result b r u.place)) (p.sets b)) q in_it
 
-          accepted : p.accepts b r set_of.0.place ≡ true
-          accepted = All-contains (λ (u : PlacedTransactionSet). p.accepts b r u.place ≡ true) (filter (λ u. p.accepts b r u.place) (p.sets b)) set_of.0 (filter_passes (λ u. p.accepts b r u.place) (p.sets b)) set_of.1
+          accepted : takes (p.result b r set_of.0.place) ≡ true
+          accepted = All-contains (λ (u : PlacedTransactionSet). takes (p.result b r u.place) ≡ true) (filter (λ u. takes (p.result b r u.place)) (p.sets b)) set_of.0 (filter_passes (λ u. takes (p.result b r u.place)) (p.sets b)) set_of.1
 
-          here : Contains (t.items j) (Came b (Some r))
-          here = rw (items_at p laws net w was j a at) came
+          here : HasCame (t.items j) b (Some r)
+          here = (ed, rw (items_at p laws net w was j a at) came)
 
           ok : CameOk p t j b
           ok = was.holds.came j b (Some r) here
@@ -228,7 +230,7 @@ module _ (p : Profile) (laws : Laws p) (net : Network) (w : World) (was : Sound 
           is_by : IsBy p t from.0 b
           is_by = name_at p laws net w was from.0 from.1 from.2 ∙ ap Some (from.3 ∙ sender)
 
-          clash : {A : Type 0} → p.accepts b r set_of.0.place ≡ false → A
+          clash : {A : Type 0} → takes (p.result b r set_of.0.place) ≡ false → A
           clash no_way = let both : true ≡ false = sym accepted ∙ no_way in absurd cc
 
           no_group : {A : Type 0} → p.groups b ≡ [] → A
@@ -238,7 +240,7 @@ module _ (p : Profile) (laws : Laws p) (net : Network) (w : World) (was : Sound 
           sent_here sent = elim (party_tells (p.receiver b) a.me) [
             | inl own ↦
                 let name = named_station j a at (p.receiver b) (sym own.1) in
-                (b, set_of.0, not_unknown b (from.0, sent, name.0, name.1, name.2), own.1, contains_filter (λ u. p.accepts b r u.place) (p.sets b) set_of.0 set_of.1, sym set_of.2)
+                (b, set_of.0, not_unknown b (from.0, sent, name.0, name.1, name.2), own.1, contains_filter (λ u. takes (p.result b r u.place)) (p.sets b) set_of.0 set_of.1, sym set_of.2)
             | inr other ↦ clash (laws.reply.accepts_no_other kept.me kept.agreements b r kept.reply (λ same. other.1 (same ∙ me)) set_of.0.place)
           ]
 

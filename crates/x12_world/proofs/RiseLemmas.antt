@@ -39,8 +39,8 @@ module _ (p : Profile) where
   -- one item more
   rises_with : (t : Trace) (node last group : ℕ) (fresh : Option Bytes) (packets : List Packet) (new : Option Item) → Holds p t → ItemNews p t node group fresh packets new → FreshNews p t node last fresh → NumbersRise (t.items node) → NumbersRise (t.items node ++ option_to_list new)
   rises_with t node last group fresh packets None holds item written was = subst NumbersRise (sym (append-nil (t.items node))) was
-  rises_with t node last group fresh packets (Some (Came b r)) holds item written was =
-      subst (AllPairs (λ (x y : Bytes). p.number x < p.number y)) (sym (submissions-append (t.items node) (Came b r ∷ []) ∙ append-nil (submissions (t.items node)))) was
+  rises_with t node last group fresh packets (Some (Came ed b r)) holds item written was =
+      subst (AllPairs (λ (x y : Bytes). p.number x < p.number y)) (sym (submissions-append (t.items node) (Came ed b r ∷ []) ∙ append-nil (submissions (t.items node)))) was
   rises_with t node last group fresh packets (Some (Submitted x)) holds item written was =
       let above = fresh_above t node last fresh x written item.1 in
       subst (AllPairs (λ (x y : Bytes). p.number x < p.number y)) (sym (submissions-append (t.items node) (Submitted x ∷ [])))

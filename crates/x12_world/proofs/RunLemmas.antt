@@ -284,7 +284,7 @@ module _ (p : Profile) (net : Network) (is : IsNetwork p net) where
   not_written b (inr h) = no_decision h.0 _ h.2
 
   no_answer : {A : Type 0} (x r : Bytes) → Answers (trace_of first) x r → A
-  no_answer x r (inl h) = no_item h.0 (Came x (Some r)) h.1
+  no_answer x r (inl h) = no_item h.0 (Came h.1.0 x (Some r)) h.1.1
   no_answer x r (inr h) = no_decision h.0 _ h.1
 
   -- a hub has a hub's number
@@ -324,15 +324,15 @@ module _ (p : Profile) (net : Network) (is : IsNetwork p net) where
       two_hubs = λ i j k a b c apart. two_hubs net.second i j k (hub_number i _ refl a) (hub_number j _ refl b) (hub_number k _ refl c) apart;
       at_hub = λ k d h. no_decision k d h;
       sent = λ i x h. no_item i (Submitted x) h;
-      came = λ i b r h. no_item i (Came b r) h;
-      reply = λ i b r h. no_item i (Came b (Some r)) h;
+      came = λ i b r h. no_item i (Came h.0 b r) h.1;
+      reply = λ i b r h. no_item i (Came h.0 b (Some r)) h.1;
       decision = λ k d h. no_decision k d h;
       refusal = λ k b r h. no_decision k _ h;
       origin = λ i b h by. not_written b h;
       unique = λ i b c hb hc byb byc e. not_written b hb;
       below = λ i b h by. not_written b h;
       packet = λ q h. none_in_nil q h;
-      filed_first = λ i b r h. no_item i (Came b r) h;
+      filed_first = λ i b r h. no_item i (Came h.0 b r) h.1;
       posted = λ i k. rw ((nothing i (node_at first.nodes i) refl).0) refl;
       decided_first = λ k d h. no_decision k d h;
       groups_apart = λ i x y hx hy e. no_item i (Submitted x) hx;

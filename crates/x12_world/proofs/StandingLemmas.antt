@@ -6,12 +6,12 @@ use Rattle.x12_envelopes.specs.declared.party.Party.{Party}
 use Rattle.x12_profile.specs.Interchange.{Bytes}
 use Rattle.x12_profile.specs.Profile.{Profile}
 use Rattle.x12_profile.specs.Laws.{Laws}
-use Rattle.x12_station.specs.History.{Submitted, Came}
+use Rattle.x12_station.specs.History.{HasCame, Submitted, Came}
 use Rattle.x12_hub.specs.Hub.{Decision, Refused}
 use Rattle.x12_world.specs.Exchange.{ExchangeVerdict, ByReceiver, ByHub, Standing, Unknown, Waiting, Judged, Learnt, Exchange, Moves, IsStepOrNone}
 use Rattle.x12_numbers.proofs.Shelf.{bytes_eq_tells, bytes_eq_itself}
-use Rattle.x12_world.proofs.Traces.{Trace, IsCarried, IsRefusedWith, IsBy, Answers, Grows, Holds}
-use Rattle.x12_world.proofs.TraceLemmas.{item_later, item_cases, decision_later, decision_cases, fresh_new, came_before, sent_fresh, fresh_by}
+use Rattle.x12_world.proofs.Traces.{Trace, IsCame, IsCarried, IsRefusedWith, IsBy, Answers, Grows, Holds}
+use Rattle.x12_world.proofs.TraceLemmas.{came_cases, came_stays, item_later, item_cases, decision_later, decision_cases, fresh_new, came_before, sent_fresh, fresh_by}
 
 module _ (p : Profile) where
   -- a station submitted x to a station
@@ -20,11 +20,11 @@ module _ (p : Profile) where
 
   -- r acknowledges x with this verdict
   abbrev pub IsAcked : Trace → Bytes → ExchangeVerdict → Bytes → Type 0
-  IsAcked t x v r = ((j : ℕ) × (t.names j ≡ Some (p.receiver x)) × Contains (t.items j) (Came x (Some r)) × (v ≡ ByReceiver (p.accepts x r))) ⊎ ((k : ℕ) × IsRefusedWith t k x r × (v ≡ ByHub))
+  IsAcked t x v r = ((j : ℕ) × (t.names j ≡ Some (p.receiver x)) × HasCame (t.items j) x (Some r) × (v ≡ ByReceiver (p.result x r))) ⊎ ((k : ℕ) × IsRefusedWith t k x r × (v ≡ ByHub))
 
   -- r came to the station that submitted x
   abbrev pub IsHandledBy : Trace → Bytes → Bytes → Type 0
-  IsHandledBy t x r = (i : ℕ) × (k : Option Bytes) × Contains (t.items i) (Submitted x) × Contains (t.items i) (Came r k)
+  IsHandledBy t x r = (i : ℕ) × (k : Option Bytes) × Contains (t.items i) (Submitted x) × HasCame (t.items i) r k
 
   abbrev pub StandsAs : Trace → Bytes → Standing → Type 0
   StandsAs t x Unknown = ¬ (IsExchanged t x)
@@ -58,11 +58,11 @@ module _ (p : Profile) (laws : Laws p) (t t' : Trace) (g : Grows p t t') (was : 
   exchanged_later x h = (h.0, item_later p t t' g was h.0 (Submitted x) h.1, h.2, named_later h.2 (p.receiver x) h.3, g.hubs h.2 ∙ h.4)
 
   pub acked_later : (x : Bytes) (v : ExchangeVerdict) (r : Bytes) → IsAcked p t x v r → IsAcked p t' x v r
-  acked_later x v r (inl h) = inl (h.0, named_later h.0 (p.receiver x) h.1, item_later p t t' g was h.0 (Came x (Some r)) h.2, h.3)
+  acked_later x v r (inl h) = inl (h.0, named_later h.0 (p.receiver x) h.1, came_stays p t t' g was h.0 x (Some r) h.2, h.3)
   acked_later x v r (inr h) = inr (h.0, decision_later p t t' g was h.0 (record { body = x; outcome = Refused r }) h.1, h.2)
 
   pub handled_later : (x r : Bytes) → IsHandledBy p t x r → IsHandledBy p t' x r
-  handled_later x r h = (h.0, h.1, item_later p t t' g was h.0 (Submitted x) h.2, item_later p t t' g was h.0 (Came r h.1) h.3)
+  handled_later x r h = (h.0, h.1, item_later p t t' g was h.0 (Submitted x) h.2, came_stays p t t' g was h.0 r h.1 h.3)
 
   pub answers_of : (x : Bytes) (v : ExchangeVerdict) (r : Bytes) → IsAcked p t x v r → Answers t x r
   answers_of x v r (inl h) = inl (h.0, h.2)
@@ -76,9 +76,9 @@ module _ (p : Profile) (laws : Laws p) (t t' : Trace) (g : Grows p t t') (was : 
   carried_of x h = (was.sent h.0 x h.1).carried
 
   -- What is not touched stays: x is not submitted now, not acknowledged now, and no acknowledgment of it comes now.
-  pub stays : (x : Bytes) (st : Standing) → (g.new ≡ Some (Submitted x) → ¬ (IsExchanged p t' x)) → (st ≡ Waiting → (r : Bytes) (j : ℕ) → t.names j ≡ Some (p.receiver x) → ¬ ((g.new ≡ Some (Came x (Some r))) × (j ≡ g.node)))
+  pub stays : (x : Bytes) (st : Standing) → (g.new ≡ Some (Submitted x) → ¬ (IsExchanged p t' x)) → (st ≡ Waiting → (r : Bytes) (j : ℕ) → t.names j ≡ Some (p.receiver x) → ¬ ((IsCame g.new x (Some r)) × (j ≡ g.node)))
       → (st ≡ Waiting → (r : Bytes) → ¬ (g.decision ≡ Some (record { body = x; outcome = Refused r })))
-      → ((v : ExchangeVerdict) → st ≡ Judged v → (r : Bytes) (k : Option Bytes) → IsAcked p t x v r → Contains (t.items g.node) (Submitted x) → ¬ (g.new ≡ Some (Came r k)))
+      → ((v : ExchangeVerdict) → st ≡ Judged v → (r : Bytes) (k : Option Bytes) → IsAcked p t x v r → Contains (t.items g.node) (Submitted x) → ¬ (IsCame g.new r k))
       → StandsAs p t x st → StandsAs p t' x st
   stays x Unknown not_sent not_acked not_refused not_come h = λ ex. h (back ex)
     where
@@ -90,7 +90,7 @@ module _ (p : Profile) (laws : Laws p) (t t' : Trace) (g : Grows p t t') (was : 
   stays x Waiting not_sent not_acked not_refused not_come h = (exchanged_later x h.0, none)
     where
       none : (v : ExchangeVerdict) (r : Bytes) → ¬ (IsAcked p t' x v r)
-      none v r (inl a) = elim (item_cases p t t' g was a.0 (Came x (Some r)) a.2) [
+      none v r (inl a) = elim (came_cases p t t' g was a.0 x (Some r) a.2) [
         | inl old ↦ h.1 v r (inl (a.0, named_now a.0 (p.receiver x) a.1, old, a.3))
         | inr new ↦ not_acked refl r a.0 (named_now a.0 (p.receiver x) a.1) (new.1, new.0)
       ]
@@ -105,7 +105,7 @@ module _ (p : Profile) (laws : Laws p) (t t' : Trace) (g : Grows p t t') (was : 
 
       back : IsHandledBy p t' x h.1 → IsHandledBy p t x h.1
       back a = elim (item_cases p t t' g was a.0 (Submitted x) a.2) [
-        | inl old ↦ elim (item_cases p t t' g was a.0 (Came h.1 a.1) a.3) [
+        | inl old ↦ elim (came_cases p t t' g was a.0 h.1 a.1 a.3) [
           | inl before ↦ (a.0, a.1, old, before)
           | inr new ↦ absurd (not_come v refl h.1 a.1 h.2 (subst (λ k. Contains (t.items k) (Submitted x)) new.0 old) new.1)
         ]
@@ -153,7 +153,7 @@ module _ (p : Profile) (laws : Laws p) (t t' : Trace) (g : Grows p t t') (was : 
   only_one x y r h ax ay = was.answers_once h.0 h.0 x y r (by_of x h) (by_of x h ∙ ap Some (sym (answer_to x r ax) ∙ answer_to y r ay)) ax ay
 
   -- what is written now came nowhere
-  pub fresh_came_nowhere : {A : Type 0} (r : Bytes) (i : ℕ) (k : Option Bytes) → g.fresh ≡ Some r → Contains (t'.items i) (Came r k) → A
+  pub fresh_came_nowhere : {A : Type 0} (r : Bytes) (i : ℕ) (k : Option Bytes) → g.fresh ≡ Some r → HasCame (t'.items i) r k → A
   fresh_came_nowhere r i k e h = fresh_new p t t' g was r e (inl (came_before p t t' g was i g.node r k h (fresh_by p t t' g was r e)))
 
   pub not_new : {A B : Type 0} {o : Option A} {x : A} → o ≡ None → o ≡ Some x → B
@@ -169,14 +169,14 @@ module _ (p : Profile) (laws : Laws p) (t t' : Trace) (g : Grows p t t') (was : 
       body_or None = x
       body_or (Some c) = c.body
 
-  pub came_is : (b c : Bytes) (k l : Option Bytes) → g.new ≡ Some (Came b k) → g.new ≡ Some (Came c l) → (b ≡ c) × (k ≡ l)
-  came_is b c k l a e = let both : Some (Came b k) ≡ Some (Came c l) = sym a ∙ e in let body : b ≡ c = cc in let reply : k ≡ l = cc in (body, reply)
+  pub came_is : (b c : Bytes) (k l : Option Bytes) → IsCame g.new b k → IsCame g.new c l → (b ≡ c) × (k ≡ l)
+  came_is b c k l a e = let both : Some (Came a.0 b k) ≡ Some (Came e.0 c l) = sym a.1 ∙ e.1 in let body : b ≡ c = cc in let reply : k ≡ l = cc in (body, reply)
 
   pub sent_is : (x y : Bytes) → g.new ≡ Some (Submitted x) → g.new ≡ Some (Submitted y) → x ≡ y
   sent_is x y a e = let both : Some (Submitted x) ≡ Some (Submitted y) = sym a ∙ e in let body : x ≡ y = cc in body
 
-  pub not_sent_and_came : {A : Type 0} (x b : Bytes) (k : Option Bytes) → g.new ≡ Some (Submitted x) → g.new ≡ Some (Came b k) → A
-  not_sent_and_came x b k a e = let both : Some (Submitted x) ≡ Some (Came b k) = sym a ∙ e in absurd cc
+  pub not_sent_and_came : {A : Type 0} (x b : Bytes) (k : Option Bytes) → g.new ≡ Some (Submitted x) → IsCame g.new b k → A
+  not_sent_and_came x b k a e = let both : Some (Submitted x) ≡ Some (Came e.0 b k) = sym a ∙ e.1 in absurd cc
 
   pub waiting_judged : {A : Type 0} {st : Standing} {v : ExchangeVerdict} → st ≡ Waiting → st ≡ Judged v → A
   waiting_judged a b = absurd (clash (sym a ∙ b))

@@ -13,8 +13,8 @@ use Rattle.x12_envelopes.specs.declared.moment.Moment.{Moment}
 use Rattle.x12_profile.specs.Interchange.{Bytes, Book, Needs, book_for, is_within}
 use Rattle.x12_profile.specs.Profile.{Profile}
 use Rattle.x12_profile.specs.Laws.{Laws, IsReply, IsTa1Refusal}
-use Rattle.x12_station.specs.History.{Item, Submitted, Came, KeptArrival, filed, submissions}
-use Rattle.x12_station.specs.Station.{Station}
+use Rattle.x12_station.specs.History.{HasCame, Item, Submitted, Came, KeptArrival, filed, submissions}
+use Rattle.x12_station.specs.Station.{Station, edition_next}
 use Rattle.x12_station.specs.Schedule.{schedule_of}
 use Rattle.x12_outbound.specs.Schedule.{tick_seen}
 use Rattle.x12_core.specs.Packet.{carried as body_of, Packet, Deposit, Taken}
@@ -120,6 +120,9 @@ module _ (p : Profile) (laws : Laws p) (net : Network) (plain : All (λ party. I
   in_items : (c : Item) → Contains s.items c → Contains (t.items i) c
   in_items c h = rw items_is h
 
+  in_came : (b : Bytes) (k : Option Bytes) → HasCame s.items b k → HasCame (t.items i) b k
+  in_came b k h = (h.0, in_items (Came h.0 b k) h.1)
+
   -- what the station has sent before
   abbrev Known : List Bytes → Option Bytes → Type 0
   Known bs fresh = (b : Bytes) → Contains bs b → IsBy p t i b × (IsCarried t b ⊎ (fresh ≡ Some b))
@@ -184,21 +187,21 @@ module _ (p : Profile) (laws : Laws p) (net : Network) (plain : All (λ party. I
 
     -- a first arrival that gets no reply
     silent_does : filed p s.items (p.sender b) (p.number b) ≡ None → DoesStep (record { station = filed_now p s b None s.book; sends = [] })
-    silent_does none = station_does (filed_now p s b None s.book) (Some (Came b None)) None first [] only refl refl refl (omega arith) (omega arith) (came none) tt (λ f e. absurd cc) (λ c h. none_in_nil c h)
+    silent_does none = station_does (filed_now p s b None s.book) (Some (Came (edition_next s) b None)) None first [] only refl refl refl (omega arith) (omega arith) (came none) tt (λ f e. absurd cc) (λ c h. none_in_nil c h)
 
     -- a first arrival, and its reply
-    reply_does : filed p s.items (p.sender b) (p.number b) ≡ None → (book : Book) → book.interchange ≡ s.book.interchange + 1 → s.book.group ≤ book.group → (IsTrue (p.needs s.me s.agreements b).group → 1 ≤ book.group) → IsTrue (p.needs s.me s.agreements b).reply → IsTrue (is_within book)
-        → DoesStep (record { station = filed_now p s b (Some (p.reply s.me s.agreements m book b)) book; sends = p.reply s.me s.agreements m book b ∷ [] })
+    reply_does : filed p s.items (p.sender b) (p.number b) ≡ None → (book : Book) → book.interchange ≡ s.book.interchange + 1 → s.book.group ≤ book.group → (IsTrue (p.needs (edition_next s) s.me s.agreements b).group → 1 ≤ book.group) → IsTrue (p.needs (edition_next s) s.me s.agreements b).reply → IsTrue (is_within book)
+        → DoesStep (record { station = filed_now p s b (Some (p.reply (edition_next s) s.me s.agreements m book b)) book; sends = p.reply (edition_next s) s.me s.agreements m book b ∷ [] })
     reply_does none book icn gcn group due within =
-        let r : Bytes = p.reply s.me s.agreements m book b in
-        let reply : IsReply p s.me s.agreements b r = record { at = m; book = book; header = header; plain = plain_me; due = due; icn_taken = omega arith; gcn_taken = group; within = within; bytes = refl } in
+        let r : Bytes = p.reply (edition_next s) s.me s.agreements m book b in
+        let reply : IsReply p s.me s.agreements b r = record { edition = edition_next s; at = m; book = book; header = header; plain = plain_me; due = due; icn_taken = omega arith; gcn_taken = group; within = within; bytes = refl } in
         let number = laws.reply.number s.me s.agreements b r reply in
         let last = last_is in
         let by : IsBy p t i r = name_is ∙ ap Some (sym (laws.reply.from s.me s.agreements b r reply)) in
-        station_does (filed_now p s b (Some r) book) (Some (Came b (Some r))) (Some r) first (r ∷ []) only refl refl refl (omega arith) gcn
+        station_does (filed_now p s b (Some r) book) (Some (Came (edition_next s) b (Some r))) (Some r) first (r ∷ []) only refl refl refl (omega arith) gcn
         (came none, record { me = s.me; at = name_is; agreements = s.agreements; reply = reply }, refl, sent_in_deposits site first r)
         (by, omega arith, omega arith)
-        (λ f e. let same : r ≡ f = cc in replies b (ap (λ z. Some (Came b (Some z))) same))
+        (λ f e. let same : r ≡ f = cc in replies b (edition_next s, ap (λ z. Some (Came (edition_next s) b (Some z))) same))
         (fresh_alone r by)
 
     -- other bytes under a filed number are no node's
@@ -206,7 +209,7 @@ module _ (p : Profile) (laws : Laws p) (net : Network) (plain : All (λ party. I
     no_node f found other k by =
         let is = filed_found p s.items (p.sender b) (p.number b) f found in
         let byf : IsBy p t k f.body = by ∙ ap Some (sym is.1) in
-        let came_f = was.holds.came i f.body f.reply (in_items (Came f.body f.reply) is.0) in
+        let came_f = was.holds.came i f.body f.reply (in_came f.body f.reply is.0) in
         other (was.holds.unique k f.body b (inl (came_f.carried k byf)) (inl (brought.carried k by)) byf by is.2)
 
     note_does : (f : KeptArrival) → filed p s.items (p.sender b) (p.number b) ≡ Some f → f.body ≢ b → (book : Book) → book.interchange ≡ s.book.interchange + 1 → s.book.group ≤ book.group → IsTrue (is_within book)
@@ -228,18 +231,18 @@ module _ (p : Profile) (laws : Laws p) (net : Network) (plain : All (λ party. I
     same_does f found = quiet s first (option_to_list f.reply) only refl refl refl refl (λ r h.
         let kept : f.reply ≡ Some r = contains_option f.reply r h in
         let is = filed_found p s.items (p.sender b) (p.number b) f found in
-        let ok = was.holds.reply i f.body r (in_items (Came f.body (Some r)) (subst (λ k. Contains s.items (Came f.body k)) kept is.0)) in
+        let ok = was.holds.reply i f.body r (in_came f.body (Some r) (subst (λ k. HasCame s.items f.body k) kept is.0)) in
         (ok.at ∙ ap Some (sym (laws.reply.from ok.me ok.agreements f.body r ok.reply)), ok.carried))
 
-    arrive_new_does : filed p s.items (p.sender b) (p.number b) ≡ None → (step : StationStep) → arrive_new p s m b (book_for s.book (p.needs s.me s.agreements b)) ≡ Some step → DoesStep step
+    arrive_new_does : filed p s.items (p.sender b) (p.number b) ≡ None → (step : StationStep) → arrive_new p s m b (book_for s.book (p.needs (edition_next s) s.me s.agreements b)) ≡ Some step → DoesStep step
     arrive_new_does none step e =
-        let book : Book = book_for s.book (p.needs s.me s.agreements b) in
-        let r : Bytes = p.reply s.me s.agreements m book b in
-        elim (if_cases (p.needs s.me s.agreements b).reply (if is_within book then Some (record { station = filed_now p s b (Some r) book; sends = r ∷ [] }) else None)
+        let book : Book = book_for s.book (p.needs (edition_next s) s.me s.agreements b) in
+        let r : Bytes = p.reply (edition_next s) s.me s.agreements m book b in
+        elim (if_cases (p.needs (edition_next s) s.me s.agreements b).reply (if is_within book then Some (record { station = filed_now p s b (Some r) book; sends = r ∷ [] }) else None)
         (Some (record { station = filed_now p s b None s.book; sends = [] })) (Some step) e) [
           | inl due ↦
               let ok = if_some_parts (is_within book) (Some (record { station = filed_now p s b (Some r) book; sends = r ∷ [] })) step due.1 in
-              subst DoesStep (some_inj ok.1) (reply_does none book (icn_taken s.book (p.needs s.me s.agreements b) due.0) (gcn_up s.book (p.needs s.me s.agreements b)) (gcn_taken s.book (p.needs s.me s.agreements b)) due.0 ok.0)
+              subst DoesStep (some_inj ok.1) (reply_does none book (icn_taken s.book (p.needs (edition_next s) s.me s.agreements b) due.0) (gcn_up s.book (p.needs (edition_next s) s.me s.agreements b)) (gcn_taken s.book (p.needs (edition_next s) s.me s.agreements b)) due.0 ok.0)
           | inr none_due ↦ subst DoesStep (some_inj none_due.1) (silent_does none)
         ]
 

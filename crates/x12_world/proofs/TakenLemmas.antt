@@ -8,7 +8,7 @@ use Rattle.x12_core.specs.Packet.{PacketName}
 use Rattle.x12_profile.specs.Interchange.{Bytes, Order, Book, Needs, book_for, is_within}
 use Rattle.x12_profile.specs.Profile.{Profile}
 use Rattle.x12_station.specs.History.{KeptArrival, filed}
-use Rattle.x12_station.specs.Station.{Station}
+use Rattle.x12_station.specs.Station.{Station, edition_next}
 use Rattle.x12_station.specs.StationRefusal.{StationRefusal, prepared_refusal, orders_refusal, book_of_orders, written_orders, arrival_takes, arrival_refusal, is_spent, within_numbers}
 use Rattle.x12_station.specs.StationStep.{StationStep, submit, submit_orders, arrive_at, arrive, tick}
 use Rattle.x12_hub.specs.Hub.{Hub, HubStep, HubOutcome, decided, mailbox_of, deposit, deposit_at, deposit_new}
@@ -57,7 +57,7 @@ module _ (p : Profile) where
       rw (not-false (p.has_header b) header.0) (by (filed p s.items (p.sender b) (p.number b)) spent.0)
     where
       by : (found : Option KeptArrival) → is_spent s.book (arrival_takes p s b found) ≡ false → is_some (arrive_at p s m b found) ≡ true
-      by None within = due_or_not (p.needs s.me s.agreements b).reply (is_within (book_for s.book (p.needs s.me s.agreements b))) _ _ within
+      by None within = due_or_not (p.needs (edition_next s) s.me s.agreements b).reply (is_within (book_for s.book (p.needs (edition_next s) s.me s.agreements b))) _ _ within
       by (Some f) within = other_or_not (bytes_eq f.body b) (p.is_silent b) s.book _ _ _ within
 
   prepared_taken : (s : Station) (x : Bytes) → prepared_refusal p s x ≡ None → is_some (submit p s x) ≡ true

@@ -13,7 +13,7 @@ use Rattle.x12_profile.specs.X12.{x12}
 use Rattle.x12_station.specs.History.{KeptArrival, filed}
 use Rattle.x12_station.specs.Ordering.{order_view}
 use Rattle.x12_station.specs.declared.ordering.Body.{Body}
-use Rattle.x12_station.specs.Station.{Station}
+use Rattle.x12_station.specs.Station.{Station, edition_next}
 use Rattle.x12_station.specs.StationRefusal.{StationRefusal, prepared_refusal, orders_refusal, arrival_refusal, arrival_takes, is_spent}
 use Rattle.x12_station.specs.StationStep.{StationStep, arrive, arrive_at}
 use Rattle.x12_hub.specs.Hub.{Hub, HubStep, HubOutcome, decided, deposit, mailbox_of}
@@ -73,7 +73,7 @@ other_taken false false book a b c d e = written (is_within (book_for book (reco
 
 module _ (p : Profile) (s : Station) (m : Moment) (b : Bytes) where
   found_taken : (found : Option KeptArrival) (step : StationStep) → arrive_at p s m b found ≡ Some step → is_spent s.book (arrival_takes p s b found) ≡ false
-  found_taken None step e = reply_or_none (p.needs s.me s.agreements b).reply (is_within (book_for s.book (p.needs s.me s.agreements b))) _ _ step e
+  found_taken None step e = reply_or_none (p.needs (edition_next s) s.me s.agreements b).reply (is_within (book_for s.book (p.needs (edition_next s) s.me s.agreements b))) _ _ step e
   found_taken (Some f) step e = other_taken (bytes_eq f.body b) (p.is_silent b) s.book _ _ _ step e
 
   by_header : (header : Bool) → p.has_header b ≡ header → (step : StationStep) → (if header then arrive_at p s m b (filed p s.items (p.sender b) (p.number b)) else None) ≡ Some step → arrival_refusal p s b ≡ None

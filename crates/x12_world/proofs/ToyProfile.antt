@@ -10,6 +10,8 @@ use Rattle.std.proofs.lemmas.Bool.{eqb-true, and_parts}
 use Rattle.x12_envelopes.specs.declared.party.Party.{Party}
 use Rattle.x12_judge.specs.Agreement.{TradingAgreement, is_same_party}
 use Rattle.x12_envelopes.specs.declared.moment.Moment.{Moment}
+use Rattle.x12_profile.specs.declared.edition.Edition.{Edition}
+use Rattle.x12_profile.specs.Result.{Rejects, result_if, takes}
 use Rattle.x12_profile.specs.Interchange.{Bytes, PlaceOfSet, PlacedTransactionSet, PlacedEvidence, Book, is_place, evidence_by}
 use Rattle.x12_profile.specs.Profile.{Profile}
 use Rattle.x12_profile.specs.Laws.{Laws, SubmissionLaws, ReplyLaws, RefusalLaws}
@@ -51,11 +53,11 @@ abbrev has : List TradingAgreement → Bool
 has [] = false
 has (a ∷ agreements) = true
 
-abbrev takes : Party → List TradingAgreement → Bytes → Bool
-takes me agreements b = is_sub b && is_same_party (to b) me && has agreements
+abbrev agrees : Party → List TradingAgreement → Bytes → Bool
+agrees me agreements b = is_sub b && is_same_party (to b) me && has agreements
 
 abbrev flag : Party → List TradingAgreement → Bytes → ℕ
-flag me agreements b = if takes me agreements b then 1 else 0
+flag me agreements b = if agrees me agreements b then 1 else 0
 
 abbrev pub toy : Profile
 toy = record {
@@ -67,14 +69,14 @@ toy = record {
   sets = sets_of;
   is_submission = is_sub;
   is_silent = λ b. not (is_sub b);
-  refuses = λ me b. not (is_same_party (to b) me);
-  verdict = λ me agreements x k. takes me agreements x;
-  needs = λ me agreements b. record { reply = is_sub b; group = is_sub b };
-  reply = λ me agreements at book b. 1 ∷ digit me ∷ nth b 1 ∷ book.interchange ∷ nth b 3 ∷ flag me agreements b ∷ [];
+  refuses = λ ed me b. not (is_same_party (to b) me);
+  verdict = λ ed me agreements x k. result_if (agrees me agreements x);
+  needs = λ ed me agreements b. record { reply = is_sub b; group = is_sub b };
+  reply = λ ed me agreements at book b. 1 ∷ digit me ∷ nth b 1 ∷ book.interchange ∷ nth b 3 ∷ flag me agreements b ∷ [];
   refusal = λ note me at icn b. 2 ∷ digit me ∷ nth b 1 ∷ icn ∷ nth b 3 ∷ 0 ∷ [];
-  evidence = λ hubs b x. if tells_of hubs b x then evidence_by (λ k. nth b 5 == 1) (sets_of x) else [];
-  accepts = λ b r k. is_sub b && is_same_party (to b) (from r) && (nth r 5 == 1);
-  pieces = λ hubs xs b. [];
+  evidence = λ ed hubs b x. if tells_of hubs b x then evidence_by (λ k. result_if (nth b 5 == 1)) (sets_of x) else [];
+  result = λ b r k. result_if (is_sub b && is_same_party (to b) (from r) && (nth r 5 == 1));
+  pieces = λ ed hubs xs b. [];
   unclear = λ b. 0;
   may_order = λ partner texts. true;
   orders = λ me partner at book texts. 0 ∷ digit me ∷ digit partner ∷ book.interchange ∷ [];
@@ -111,10 +113,10 @@ any_contains a (n ∷ names) e = elim (or_cases (is_same_party a n) (list_any (i
 ]
 
 -- evidence tells that b answers x
-answers : (hubs : List Party) (b x : Bytes) (e : PlacedEvidence) → Contains (toy.evidence hubs b x) e → tells_of hubs b x ≡ true
-answers hubs b x e h = by (tells_of hubs b x) h
+answers : (ed : Edition) (hubs : List Party) (b x : Bytes) (e : PlacedEvidence) → Contains (toy.evidence ed hubs b x) e → tells_of hubs b x ≡ true
+answers ed hubs b x e h = by (tells_of hubs b x) h
   where
-    by : (t : Bool) → Contains (if t then evidence_by (λ k. nth b 5 == 1) (sets_of x) else []) e → t ≡ true
+    by : (t : Bool) → Contains (if t then evidence_by (λ k. result_if (nth b 5 == 1)) (sets_of x) else []) e → t ≡ true
     by true k = refl
     by false k = none_in_nil e k
 
@@ -135,7 +137,7 @@ submission_laws : SubmissionLaws toy
 submission_laws = record {
   has_group = λ x sub e. no_nil (rw sub at e);
   one_at_a_place = λ x s h. one_at_a_place x s h (is_sub x) refl;
-  tells_nothing = λ hubs b x sub. rw sub refl;
+  tells_nothing = λ ed hubs b x sub. rw sub refl;
 }
   where
     no_nil : {n : ℕ} → n ∷ [] ≡ [] → ⊥
@@ -145,8 +147,8 @@ test_one : (t : Bool) → ((if t then 1 else 0) == 1) ≡ t
 test_one true = refl
 test_one false = refl
 
-tells_own : (a : List TradingAgreement) (m : Moment) (book : Book) (hubs : List Party) (x : Bytes) → toy.evidence hubs (toy.reply (to x) a m book x) x ≡ evidence_by (toy.verdict (to x) a x) (toy.sets x)
-tells_own a m book hubs x = rw (eq_itself (nth x 3), test_one (takes (to x) a x), eq_itself (nth x 2)) refl
+tells_own : (ed by : Edition) (a : List TradingAgreement) (m : Moment) (book : Book) (hubs : List Party) (x : Bytes) → toy.evidence ed hubs (toy.reply by (to x) a m book x) x ≡ evidence_by (toy.verdict by (to x) a x) (toy.sets x)
+tells_own ed by a m book hubs x = rw (eq_itself (nth x 3), test_one (agrees (to x) a x), eq_itself (nth x 2)) refl
 
 -- what a reply by this party accepts
 accepts_by : (s t h : Bool) → (s && t && (s && t && h)) ≡ (s && t && h)
@@ -154,19 +156,19 @@ accepts_by true true h = refl
 accepts_by true false h = refl
 accepts_by false t h = refl
 
-accepts_from : (q me : Party) (a : List TradingAgreement) (x : Bytes) → q ≡ me → (is_sub x && is_same_party (to x) q && (flag me a x == 1)) ≡ takes me a x
-accepts_from q me a x plain = rw (plain, test_one (takes me a x)) (accepts_by (is_sub x) (is_same_party (to x) me) (has a))
+accepts_from : (q me : Party) (a : List TradingAgreement) (x : Bytes) → q ≡ me → (is_sub x && is_same_party (to x) q && (flag me a x == 1)) ≡ agrees me a x
+accepts_from q me a x plain = rw (plain, test_one (agrees me a x)) (accepts_by (is_sub x) (is_same_party (to x) me) (has a))
 
-accepts_own : (me : Party) (a : List TradingAgreement) (m : Moment) (book : Book) (x : Bytes) (k : PlaceOfSet) → party (digit me) ≡ me → toy.accepts x (toy.reply me a m book x) k ≡ toy.verdict me a x k
-accepts_own me a m book x k plain = accepts_from (party (digit me)) me a x plain
+accepts_own : (ed : Edition) (me : Party) (a : List TradingAgreement) (m : Moment) (book : Book) (x : Bytes) (k : PlaceOfSet) → party (digit me) ≡ me → toy.result x (toy.reply ed me a m book x) k ≡ toy.verdict ed me a x k
+accepts_own ed me a m book x k plain = ap result_if (accepts_from (party (digit me)) me a x plain)
 
-accepts_no_group : (b r : Bytes) (k : PlaceOfSet) → is_sub b ≡ true → toy.groups b ≡ [] → toy.accepts b r k ≡ false
+accepts_no_group : (b r : Bytes) (k : PlaceOfSet) → is_sub b ≡ true → toy.groups b ≡ [] → takes (toy.result b r k) ≡ false
 accepts_no_group b r k sub none = absurd (no_nil (rw sub at none))
   where
     no_nil : {n : ℕ} → n ∷ [] ≡ [] → ⊥
     no_nil e = cc
 
-takes_no_other : (me : Party) (a : List TradingAgreement) (b : Bytes) → to b ≢ me → takes me a b ≡ false
+takes_no_other : (me : Party) (a : List TradingAgreement) (b : Bytes) → to b ≢ me → agrees me a b ≡ false
 takes_no_other me a b other = elim (party_tells (to b) me) [
   | inl same ↦ absurd (other same.1)
   | inr apart ↦ rw (apart.0) (by (is_sub b) (has a))
@@ -182,16 +184,16 @@ reply_laws = record {
   to = λ me a b r w. ap (λ z. party (nth z 2)) w.bytes;
   number = λ me a b r w. ap (λ z. nth z 3) w.bytes;
   no_groups = λ me a b r w. ap toy.groups w.bytes;
-  about = λ me a b r w hubs x e h. inl (sym (ap (λ z. nth z 4) w.bytes) ∙ (parts hubs r x (answers hubs r x e h)).1);
-  is_taken = λ me a x r w. ap (toy.refuses (from x)) w.bytes ∙ rw (same_party_itself (from x)) refl;
-  tells = λ me a x r w sub n rises own hubs. ap (λ z. toy.evidence hubs z x) w.bytes ∙ subst (λ z. toy.evidence hubs (toy.reply z a w.at w.book x) x ≡ evidence_by (toy.verdict z a x) (toy.sets x)) own (tells_own a w.at w.book hubs x);
-  accepts = λ me a b r w k. ap (λ z. toy.accepts b z k) w.bytes ∙ accepts_own me a w.at w.book b k (one_number me w.plain);
+  about = λ me a b r w ed hubs x e h. inl (sym (ap (λ z. nth z 4) w.bytes) ∙ (parts hubs r x (answers ed hubs r x e h)).1);
+  is_taken = λ me a x r w ed. ap (toy.refuses ed (from x)) w.bytes ∙ rw (same_party_itself (from x)) refl;
+  tells = λ me a x r w sub n rises own ed hubs. ap (λ z. toy.evidence ed hubs z x) w.bytes ∙ subst (λ z. toy.evidence ed hubs (toy.reply w.edition z a w.at w.book x) x ≡ evidence_by (toy.verdict w.edition z a x) (toy.sets x)) own (tells_own ed w.edition a w.at w.book hubs x);
+  result = λ me a b r w k. ap (λ z. toy.result b z k) w.bytes ∙ accepts_own w.edition me a w.at w.book b k (one_number me w.plain);
   accepts_no_group = λ me a b r w none k. accepts_no_group b r k w.due none;
-  accepts_no_other = λ me a b r w other k. ap (λ z. toy.accepts b z k) w.bytes ∙ accepts_own me a w.at w.book b k (one_number me w.plain) ∙ takes_no_other me a b other;
+  accepts_no_other = λ me a b r w other k. ap takes (ap (λ z. toy.result b z k) w.bytes ∙ accepts_own w.edition me a w.at w.book b k (one_number me w.plain)) ∙ ap (λ t. takes (result_if t)) (takes_no_other me a b other);
 }
 
-rejects_all : (note : ℕ) (me : Party) (m : Moment) (icn : ℕ) (hubs : List Party) (x : Bytes) → party (digit me) ≡ me → Contains hubs me → toy.evidence hubs (toy.refusal note me m icn x) x ≡ evidence_by (λ k. false) (toy.sets x)
-rejects_all note me m icn hubs x plain hub =
+rejects_all : (ed : Edition) (note : ℕ) (me : Party) (m : Moment) (icn : ℕ) (hubs : List Party) (x : Bytes) → party (digit me) ≡ me → Contains hubs me → toy.evidence ed hubs (toy.refusal note me m icn x) x ≡ evidence_by (λ k. Rejects) (toy.sets x)
+rejects_all ed note me m icn hubs x plain hub =
     let known : list_any (is_same_party (party (digit me))) hubs ≡ true = hub_known (party (digit me)) hubs (rw plain hub) in
     rw (eq_itself (nth x 3), known, or_true_right (is_same_party (party (digit me)) (to x))) refl
 
@@ -201,9 +203,9 @@ refusal_laws = record {
   to = λ me b r w. ap (λ z. party (nth z 2)) w.bytes;
   number = λ me b r w. ap (λ z. nth z 3) w.bytes;
   no_groups = λ me b r w. ap toy.groups w.bytes;
-  about = λ me b r w hubs x e h. sym (ap (λ z. nth z 4) w.bytes) ∙ (parts hubs r x (answers hubs r x e h)).1;
-  is_taken = λ me x r w. ap (toy.refuses (from x)) w.bytes ∙ rw (same_party_itself (from x)) refl;
-  tells = λ me x r w sub hubs hub. ap (λ z. toy.evidence hubs z x) w.bytes ∙ rejects_all w.note me w.at w.icn hubs x (one_number me w.plain) hub;
+  about = λ me b r w ed hubs x e h. sym (ap (λ z. nth z 4) w.bytes) ∙ (parts hubs r x (answers ed hubs r x e h)).1;
+  is_taken = λ me x r w ed. ap (toy.refuses ed (from x)) w.bytes ∙ rw (same_party_itself (from x)) refl;
+  tells = λ me x r w sub ed hubs hub. ap (λ z. toy.evidence ed hubs z x) w.bytes ∙ rejects_all ed w.note me w.at w.icn hubs x (one_number me w.plain) hub;
 }
 
 pub toy_laws : Laws toy
@@ -211,8 +213,8 @@ toy_laws = record {
   submission = submission_laws;
   reply = reply_laws;
   refusal = refusal_laws;
-  told_by = λ hubs b x e h. who hubs b x (parts hubs b x (answers hubs b x e h)).2;
-  refuses_others = λ me b header taken. addressed me b taken;
+  told_by = λ ed hubs b x e h. who hubs b x (parts hubs b x (answers ed hubs b x e h)).2;
+  refuses_others = λ ed me b header taken. addressed me b taken;
 }
   where
     who : (hubs : List Party) (b x : Bytes) → (is_same_party (from b) (to x) || ((nth b 0 == 2) && list_any (is_same_party (from b)) hubs)) ≡ true → (from b ≡ to x) ⊎ Contains hubs (from b)

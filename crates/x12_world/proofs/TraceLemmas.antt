@@ -6,10 +6,11 @@ use native.Mathlib.Omega.{arith}
 use Rattle.std.proofs.lemmas.List.Elements.{Contains-append_left, Contains-append_right, Contains-append_cases}
 use Rattle.std.proofs.lemmas.Bool.Decides.{eqb_tells}
 use Rattle.x12_envelopes.specs.declared.party.Party.{Party}
+use Rattle.x12_profile.specs.declared.edition.Edition.{Edition}
 use Rattle.x12_profile.specs.Interchange.{Bytes}
 use Rattle.x12_profile.specs.Profile.{Profile}
 use Rattle.x12_profile.specs.Laws.{SharesGroup}
-use Rattle.x12_station.specs.History.{Item, Submitted, Came, KeptArrival, filed, arrivals, arrivals_after}
+use Rattle.x12_station.specs.History.{Item, Submitted, Came, KeptArrival, filed, HasCame, items_after}
 use Rattle.x12_hub.specs.Hub.{Decision, Boxed, Refused, decided}
 use Rattle.x12_core.specs.Packet.{Load, Deposit, Refusal, Taken}
 use Rattle.x12_core.specs.Packet as packet
@@ -17,7 +18,7 @@ use Rattle.x12_station.proofs.ListLemmas.{contains_option, contains_some}
 use Rattle.x12_numbers.proofs.Shelf.{contains_head}
 use Rattle.x12_world.proofs.DecidedLemmas.{decided_stays, decided_last}
 use Rattle.x12_station.proofs.HistoryLemmas.{filed_stays, filed_last, after_append, PostedByFiled, posted_next}
-use Rattle.x12_world.proofs.Traces.{Answers, CameNews, CameOk, DecidedOk, DecisionNews, FreshNews, Grows, Holds, IsBoxedFor, IsBy, IsCarried, IsSentIn, IsWritten, ItemNews, LoadOk, Origin, Reason, RefusalOk, ReplyOk, SentOk, Trace, noted, notes, refused, refuses, replied, replies, submits, submitted}
+use Rattle.x12_world.proofs.Traces.{IsCame, Answers, CameNews, CameOk, DecidedOk, DecisionNews, FreshNews, Grows, Holds, IsBoxedFor, IsBy, IsCarried, IsSentIn, IsWritten, ItemNews, LoadOk, Origin, Reason, RefusalOk, ReplyOk, SentOk, Trace, noted, notes, refused, refuses, replied, replies, submits, submitted}
 
 module _ (p : Profile) (t t' : Trace) (g : Grows p t t') (was : Holds p t) where
   pub fresh_news : (f : Bytes) → g.fresh ≡ Some f → FreshNews p t g.node (t'.last g.node) (Some f)
@@ -59,21 +60,21 @@ module _ (p : Profile) (t t' : Trace) (g : Grows p t t') (was : Holds p t) where
     rises = ok.0.rises;
   }
 
-  came_news : (b : Bytes) (k r : Option Bytes) → k ≡ r → ItemNews p t g.node (t'.group g.node) g.fresh g.packets (Some (Came b k)) → CameNews p t g.node b
-  came_news b None r e ok = ok
-  came_news b (Some q) r e ok = ok.0
+  came_news : (ed : Edition) (b : Bytes) (k r : Option Bytes) → k ≡ r → ItemNews p t g.node (t'.group g.node) g.fresh g.packets (Some (Came ed b k)) → CameNews p t g.node b
+  came_news ed b None r e ok = ok
+  came_news ed b (Some q) r e ok = ok.0
 
-  pub came_ok : (b : Bytes) (r : Option Bytes) → g.new ≡ Some (Came b r) → CameOk p t g.node b
-  came_ok b r e = (came_news b r r refl (item_news (Came b r) e)).ok
+  pub came_ok : (b : Bytes) (r : Option Bytes) → IsCame g.new b r → CameOk p t g.node b
+  came_ok b r e = (came_news e.0 b r r refl (item_news (Came e.0 b r) e.1)).ok
 
-  pub came_new : (b : Bytes) (r : Option Bytes) → g.new ≡ Some (Came b r) → filed p (t.items g.node) (p.sender b) (p.number b) ≡ None
-  came_new b r e = (came_news b r r refl (item_news (Came b r) e)).first
+  pub came_new : (b : Bytes) (r : Option Bytes) → IsCame g.new b r → filed p (t.items g.node) (p.sender b) (p.number b) ≡ None
+  came_new b r e = (came_news e.0 b r r refl (item_news (Came e.0 b r) e.1)).first
 
-  pub reply_fresh : (b r : Bytes) → g.new ≡ Some (Came b (Some r)) → g.fresh ≡ Some r
-  reply_fresh b r e = (item_news (Came b (Some r)) e).2
+  pub reply_fresh : (b r : Bytes) → IsCame g.new b (Some r) → g.fresh ≡ Some r
+  reply_fresh b r e = (item_news (Came e.0 b (Some r)) e.1).2
 
-  reply_ok : (b r : Bytes) → g.new ≡ Some (Came b (Some r)) → ReplyOk p t' g.node b r
-  reply_ok b r e = let ok = item_news (Came b (Some r)) e in record {
+  reply_ok : (b r : Bytes) → IsCame g.new b (Some r) → ReplyOk p t' g.node b r
+  reply_ok b r e = let ok = item_news (Came e.0 b (Some r)) e.1 in record {
     me = ok.1.me;
     at = named_later g.node ok.1.me ok.1.at;
     carried = sent_now r ok.3;
@@ -84,6 +85,9 @@ module _ (p : Profile) (t t' : Trace) (g : Grows p t t') (was : Holds p t) where
   pub new_item : (c : Item) → g.new ≡ Some c → Contains (t'.items g.node) c
   new_item c e = rw g.items_here (Contains-append_right (t.items g.node) (option_to_list g.new) c (contains_some g.new c e))
 
+  pub new_came : (b : Bytes) (k : Option Bytes) → IsCame g.new b k → HasCame (t'.items g.node) b k
+  new_came b k e = (e.0, new_item (Came e.0 b k) e.1)
+
   pub new_decision : (d : Decision) → g.decision ≡ Some d → Contains (t'.decisions g.node) d
   new_decision d e = rw g.decisions_here (Contains-append_right (t.decisions g.node) (option_to_list g.decision) d (contains_some g.decision d e))
 
@@ -92,7 +96,7 @@ module _ (p : Profile) (t t' : Trace) (g : Grows p t t') (was : Holds p t) where
     where
       by : Reason p t g.node g.new g.decision f → Origin p t' g.node f
       by (submits n) = submitted (new_item (Submitted f) n)
-      by (replies y n) = replied y (new_item (Came y (Some f)) n)
+      by (replies y n) = replied y (new_came y (Some f) n)
       by (notes y me n r) = noted y me (λ k by. n k (named_now k (p.sender y) by)) r
       by (refuses y d) = refused y (new_decision (record { body = y; outcome = Refused f }) d)
 
@@ -110,6 +114,12 @@ module _ (p : Profile) (t t' : Trace) (g : Grows p t t') (was : Holds p t) where
     ]
     | inr e ↦ inl (rw (g.items_else i e.1) at h)
   ]
+
+  pub came_stays : (i : ℕ) (b : Bytes) (k : Option Bytes) → HasCame (t.items i) b k → HasCame (t'.items i) b k
+  came_stays i b k h = (h.0, item_later i (Came h.0 b k) h.1)
+
+  pub came_cases : (i : ℕ) (b : Bytes) (k : Option Bytes) → HasCame (t'.items i) b k → HasCame (t.items i) b k ⊎ ((i ≡ g.node) × IsCame g.new b k)
+  came_cases i b k h = elim (item_cases i (Came h.0 b k) h.1) [ inl old ↦ inl (h.0, old) | inr new ↦ inr (new.0, (h.0, new.1)) ]
 
   pub decision_later : (k : ℕ) (d : Decision) → Contains (t.decisions k) d → Contains (t'.decisions k) d
   decision_later k d h = elim (eqb_tells k g.node) [
@@ -177,7 +187,7 @@ module _ (p : Profile) (t t' : Trace) (g : Grows p t t') (was : Holds p t) where
 
   origin_later : (i : ℕ) (b : Bytes) → Origin p t i b → Origin p t' i b
   origin_later i b (submitted h) = submitted (item_later i (Submitted b) h)
-  origin_later i b (replied y h) = replied y (item_later i (Came y (Some b)) h)
+  origin_later i b (replied y h) = replied y (came_stays i y (Some b) h)
   origin_later i b (noted y me n h) = noted y me (λ k by. n k (by_now k y by)) h
   origin_later i b (refused y h) = refused y (decision_later i (record { body = y; outcome = Refused b }) h)
 
@@ -194,12 +204,12 @@ module _ (p : Profile) (t t' : Trace) (g : Grows p t t') (was : Holds p t) where
     | inr e ↦ rw (g.items_else i e.1) h
   ]
 
-  filed_here : (b : Bytes) (r : Option Bytes) → g.new ≡ Some (Came b r) → filed p (t'.items g.node) (p.sender b) (p.number b) ≡ Some (record { body = b; reply = r })
-  filed_here b r e = rw (g.items_here, e) (filed_last p (t.items g.node) b r (came_new b r e))
+  filed_here : (b : Bytes) (r : Option Bytes) → IsCame g.new b r → filed p (t'.items g.node) (p.sender b) (p.number b) ≡ Some (record { body = b; reply = r })
+  filed_here b r e = rw (g.items_here, e.1) (filed_last p (t.items g.node) e.0 b r (came_new b r e))
 
   posted_now : (i : ℕ) → PostedByFiled p (t'.items i)
   posted_now i = elim (eqb_tells i g.node) [
-    | inl e ↦ subst (λ k. PostedByFiled p (t'.items k)) (sym e.1) (subst (PostedByFiled p) (sym g.items_here) (posted_next p (t.items g.node) g.new (was.posted g.node) came_new))
+    | inl e ↦ subst (λ k. PostedByFiled p (t'.items k)) (sym e.1) (subst (PostedByFiled p) (sym g.items_here) (posted_next p (t.items g.node) g.new (was.posted g.node) (λ ed b r e. came_new b r (ed, e))))
     | inr e ↦ subst (PostedByFiled p) (sym (g.items_else i e.1)) (was.posted i)
   ]
 
@@ -213,21 +223,21 @@ module _ (p : Profile) (t t' : Trace) (g : Grows p t t') (was : Holds p t) where
     | inr e ↦ rw (g.decisions_else k e.1) (was.decided_first k d h)
   ]
 
-  after_later : (i : ℕ) (x b : Bytes) → Contains (t.items i) (Submitted x) → Contains (arrivals_after x (t.items i)) b → Contains (arrivals_after x (t'.items i)) b
-  after_later i x b sent h = elim (eqb_tells i g.node) [
-    | inl e ↦ subst (λ k. Contains (arrivals_after x (t'.items k)) b) (sym e.1)
+  after_later : (i : ℕ) (x : Bytes) (c : Item) → Contains (t.items i) (Submitted x) → Contains (items_after x (t.items i)) c → Contains (items_after x (t'.items i)) c
+  after_later i x c sent h = elim (eqb_tells i g.node) [
+    | inl e ↦ subst (λ k. Contains (items_after x (t'.items k)) c) (sym e.1)
         (rw (g.items_here, after_append (t.items g.node) (option_to_list g.new) x (subst (λ k. Contains (t.items k) (Submitted x)) e.1 sent))
-        (Contains-append_left (arrivals_after x (t.items g.node)) (arrivals (option_to_list g.new)) b (subst (λ k. Contains (arrivals_after x (t.items k)) b) e.1 h)))
+        (Contains-append_left (items_after x (t.items g.node)) (option_to_list g.new) c (subst (λ k. Contains (items_after x (t.items k)) c) e.1 h)))
     | inr e ↦ rw (g.items_else i e.1) h
   ]
 
   -- what comes now comes after all that was submitted
-  after_here : (x b : Bytes) (k : Option Bytes) → Contains (t.items g.node) (Submitted x) → g.new ≡ Some (Came b k) → Contains (arrivals_after x (t'.items g.node)) b
-  after_here x b k sent e = rw (g.items_here, after_append (t.items g.node) (option_to_list g.new) x sent, e) (Contains-append_right (arrivals_after x (t.items g.node)) (b ∷ []) b (contains_head b []))
+  after_here : (x b : Bytes) (k : Option Bytes) → Contains (t.items g.node) (Submitted x) → IsCame g.new b k → HasCame (items_after x (t'.items g.node)) b k
+  after_here x b k sent e = (e.0, rw (g.items_here, after_append (t.items g.node) (option_to_list g.new) x sent, e.1) (Contains-append_right (items_after x (t.items g.node)) (Came e.0 b k ∷ []) (Came e.0 b k) (contains_head (Came e.0 b k) [])))
 
   -- what acknowledges x now, and was not there before, is written now; or x itself came before
   answers_cases : (x r : Bytes) → Answers t' x r → Answers t x r ⊎ (g.fresh ≡ Some r)
-  answers_cases x r (inl h) = elim (item_cases h.0 (Came x (Some r)) h.1) [ inl old ↦ inl (inl (h.0, old)) | inr new ↦ inr (reply_fresh x r new.1) ]
+  answers_cases x r (inl h) = elim (came_cases h.0 x (Some r) h.1) [ inl old ↦ inl (inl (h.0, old)) | inr new ↦ inr (reply_fresh x r new.1) ]
   answers_cases x r (inr h) = elim (decision_cases h.0 (record { body = x; outcome = Refused r }) h.1) [ inl old ↦ inl (inr (h.0, old)) | inr new ↦ inr ((decision_news (record { body = x; outcome = Refused r }) new.1).2.0) ]
 
   -- what acknowledged before was written
@@ -237,10 +247,10 @@ module _ (p : Profile) (t t' : Trace) (g : Grows p t t') (was : Holds p t) where
 
   -- what acknowledges now
   abbrev pub AnswersNow : Bytes → Bytes → Type 0
-  AnswersNow x r = (g.new ≡ Some (Came x (Some r))) ⊎ (g.decision ≡ Some (record { body = x; outcome = Refused r }))
+  AnswersNow x r = (IsCame g.new x (Some r)) ⊎ (g.decision ≡ Some (record { body = x; outcome = Refused r }))
 
   pub new_answers : (x r : Bytes) → Answers t' x r → Answers t x r ⊎ AnswersNow x r
-  new_answers x r (inl h) = elim (item_cases h.0 (Came x (Some r)) h.1) [ inl old ↦ inl (inl (h.0, old)) | inr new ↦ inr (inl new.1) ]
+  new_answers x r (inl h) = elim (came_cases h.0 x (Some r) h.1) [ inl old ↦ inl (inl (h.0, old)) | inr new ↦ inr (inl new.1) ]
   new_answers x r (inr h) = elim (decision_cases h.0 (record { body = x; outcome = Refused r }) h.1) [ inl old ↦ inl (inr (h.0, old)) | inr new ↦ inr (inr new.1) ]
 
   pub new_fresh : (x r : Bytes) → AnswersNow x r → g.fresh ≡ Some r
@@ -251,9 +261,9 @@ module _ (p : Profile) (t t' : Trace) (g : Grows p t t') (was : Holds p t) where
   not_both c d a b = elim g.one [ inl none ↦ let no_way : None ≡ Some c = sym none ∙ a in absurd cc | inr none ↦ let no_way : None ≡ Some d = sym none ∙ b in absurd cc ]
 
   both_new : (x y r : Bytes) → AnswersNow x r → AnswersNow y r → x ≡ y
-  both_new x y r (inl a) (inl b) = let same : Some (Came x (Some r)) ≡ Some (Came y (Some r)) = sym a ∙ b in let is : x ≡ y = cc in is
-  both_new x y r (inl a) (inr b) = not_both (Came x (Some r)) (record { body = y; outcome = Refused r }) a b
-  both_new x y r (inr a) (inl b) = not_both (Came y (Some r)) (record { body = x; outcome = Refused r }) b a
+  both_new x y r (inl a) (inl b) = let same : Some (Came a.0 x (Some r)) ≡ Some (Came b.0 y (Some r)) = sym a.1 ∙ b.1 in let is : x ≡ y = cc in is
+  both_new x y r (inl a) (inr b) = not_both (Came a.0 x (Some r)) (record { body = y; outcome = Refused r }) a.1 b
+  both_new x y r (inr a) (inl b) = not_both (Came b.0 y (Some r)) (record { body = x; outcome = Refused r }) b.1 a
   both_new x y r (inr a) (inr b) = ap body_or (sym a ∙ b)
     where
       body_or : Option Decision → Bytes
@@ -274,7 +284,7 @@ module _ (p : Profile) (t t' : Trace) (g : Grows p t t') (was : Holds p t) where
 
   -- what was acknowledged was sent before
   pub answered_carried : (i : ℕ) (x r : Bytes) → Answers t' x r → IsBy p t i x → IsCarried t x
-  answered_carried i x r (inl h) by = elim (item_cases h.0 (Came x (Some r)) h.1) [
+  answered_carried i x r (inl h) by = elim (came_cases h.0 x (Some r) h.1) [
     | inl old ↦ (was.came h.0 x (Some r) old).carried i by
     | inr new ↦ (came_ok x (Some r) new.1).carried i by
   ]
@@ -284,17 +294,17 @@ module _ (p : Profile) (t t' : Trace) (g : Grows p t t') (was : Holds p t) where
   ]
 
   -- what came was sent before, or is under no node's name
-  pub came_before : (i j : ℕ) (b : Bytes) (k : Option Bytes) → Contains (t'.items i) (Came b k) → IsBy p t j b → IsCarried t b
-  came_before i j b k h by = elim (item_cases i (Came b k) h) [ inl old ↦ (was.came i b k old).carried j by | inr new ↦ (came_ok b k new.1).carried j by ]
+  pub came_before : (i j : ℕ) (b : Bytes) (k : Option Bytes) → HasCame (t'.items i) b k → IsBy p t j b → IsCarried t b
+  came_before i j b k h by = elim (came_cases i b k h) [ inl old ↦ (was.came i b k old).carried j by | inr new ↦ (came_ok b k new.1).carried j by ]
 
-  order_of : (i : ℕ) (x r : Bytes) (k : Option Bytes) → Contains (t'.items i) (Submitted x) → Contains (t'.items i) (Came r k) → Answers t' x r → Contains (arrivals_after x (t'.items i)) r
+  order_of : (i : ℕ) (x r : Bytes) (k : Option Bytes) → Contains (t'.items i) (Submitted x) → HasCame (t'.items i) r k → Answers t' x r → HasCame (items_after x (t'.items i)) r k
   order_of i x r k sent came answers = elim (item_cases i (Submitted x) sent) [
-    | inl old ↦ elim (item_cases i (Came r k) came) [
+    | inl old ↦ elim (came_cases i r k came) [
       | inl before ↦ elim (answers_cases x r answers) [
-        | inl known ↦ after_later i x r old (was.order i x r k old before known)
+        | inl known ↦ let stood = was.order i x r k old before known in (stood.0, after_later i x (Came stood.0 r k) old stood.1)
         | inr now ↦ fresh_new r now (inl (came_before i g.node r k came (fresh_by r now)))
       ]
-      | inr now ↦ subst (λ j. Contains (arrivals_after x (t'.items j)) r) (sym now.0) (after_here x r k (subst (λ j. Contains (t.items j) (Submitted x)) now.0 old) now.1)
+      | inr now ↦ subst (λ j. HasCame (items_after x (t'.items j)) r k) (sym now.0) (after_here x r k (subst (λ j. Contains (t.items j) (Submitted x)) now.0 old) now.1)
     ]
     | inr new ↦ fresh_new x (sent_fresh x new.1) (inl (answered_carried g.node x r answers (fresh_by x (sent_fresh x new.1))))
   ]
@@ -363,8 +373,8 @@ module _ (p : Profile) (t t' : Trace) (g : Grows p t t') (was : Holds p t) where
     two_hubs = λ i j k a b c. was.two_hubs i j k (hub_now i true a) (hub_now j true b) (hub_now k true c);
     at_hub = λ k d h. hub_later k true (elim (decision_cases k d h) [ inl old ↦ was.at_hub k d old | inr new ↦ subst (λ i. t.hub i ≡ true) (sym new.0) (decides_here d new.1) ]);
     sent = λ i x h. elim (item_cases i (Submitted x) h) [ inl old ↦ sent_later i x (was.sent i x old) | inr new ↦ subst (λ k. SentOk p t' k x) (sym new.0) (sent_ok x new.1) ];
-    came = λ i b r h. elim (item_cases i (Came b r) h) [ inl old ↦ came_later i b (was.came i b r old) | inr new ↦ subst (λ k. CameOk p t' k b) (sym new.0) (came_later g.node b (came_ok b r new.1)) ];
-    reply = λ i b r h. elim (item_cases i (Came b (Some r)) h) [ inl old ↦ reply_later i b r (was.reply i b r old) | inr new ↦ subst (λ k. ReplyOk p t' k b r) (sym new.0) (reply_ok b r new.1) ];
+    came = λ i b r h. elim (came_cases i b r h) [ inl old ↦ came_later i b (was.came i b r old) | inr new ↦ subst (λ k. CameOk p t' k b) (sym new.0) (came_later g.node b (came_ok b r new.1)) ];
+    reply = λ i b r h. elim (came_cases i b (Some r) h) [ inl old ↦ reply_later i b r (was.reply i b r old) | inr new ↦ subst (λ k. ReplyOk p t' k b r) (sym new.0) (reply_ok b r new.1) ];
     decision = λ k d h. decided_later k d.body (elim (decision_cases k d h) [ inl old ↦ was.decision k d old | inr new ↦ subst (λ i. DecidedOk p t i d.body) (sym new.0) (decision_news d new.1).1 ]);
     refusal = λ k b r h. refusal_later k b r (elim (decision_cases k (record { body = b; outcome = Refused r }) h) [
       | inl old ↦ was.refusal k b r old
@@ -377,7 +387,7 @@ module _ (p : Profile) (t t' : Trace) (g : Grows p t t') (was : Holds p t) where
     unique = λ i b c hb hc byb byc e. unique_of i b c hb hc (by_now i b byb) (by_now i c byc) e;
     below = λ i b h by. below_of i b h (by_now i b by);
     packet = λ q h. elim (Contains-append_cases t.packets g.packets q (rw g.all_packets at h)) [ inl old ↦ packet_later q.from q.to q.load (was.packet q old) | inr new ↦ packet_later q.from q.to q.load (g.news.packet_ok q new) ];
-    filed_first = λ i b r h. elim (item_cases i (Came b r) h) [
+    filed_first = λ i b r h. elim (came_cases i b r h) [
       | inl old ↦ filed_later i b (record { body = b; reply = r }) (was.filed_first i b r old)
       | inr new ↦ subst (λ k. filed p (t'.items k) (p.sender b) (p.number b) ≡ Some (record { body = b; reply = r })) (sym new.0) (filed_here b r new.1)
     ];

@@ -4,10 +4,11 @@ use Rattle.x12_numbers.specs.Book.{is_rising}
 use Rattle.std.specs.Prelude.{◌≡◌, ◌≢◌, ℕ, ◌<◌, ◌≤◌, List, ◌++◌, Bool, true, false, Option, Some, None, Contains, ◌⊎◌, option_to_list, IsTrue}
 use Rattle.x12_envelopes.specs.declared.party.Party.{Party}
 use Rattle.x12_judge.specs.Agreement.{TradingAgreement}
+use Rattle.x12_profile.specs.declared.edition.Edition.{Edition}
 use Rattle.x12_profile.specs.Interchange.{Bytes}
 use Rattle.x12_profile.specs.Profile.{Profile}
 use Rattle.x12_profile.specs.Laws.{IsReply, IsTa1Refusal, SharesGroup}
-use Rattle.x12_station.specs.History.{Item, Submitted, Came, filed, arrivals_after}
+use Rattle.x12_station.specs.History.{Item, Submitted, Came, filed, HasCame, items_after}
 use Rattle.x12_hub.specs.Hub.{Decision, HubOutcome, Boxed, Refused, decided}
 use Rattle.x12_core.specs.Packet.{carried as body_of, Packet, Load, Deposit, Refusal, Taken}
 use Rattle.x12_core.specs.Packet as packet
@@ -42,9 +43,13 @@ IsBoxedAt t k node item b = Contains (t.decisions k) (record { body = b; outcome
 abbrev pub IsBoxedFor : Trace → (node : ℕ) → Bytes → Type 0
 IsBoxedFor t node b = (k : ℕ) × (item : ℕ) × IsBoxedAt t k node item b
 
+-- b comes now, with what is kept for it
+abbrev pub IsCame : Option Item → Bytes → Option Bytes → Type 0
+IsCame new b k = (ed : Edition) × (new ≡ Some (Came ed b k))
+
 -- r acknowledges x: it is kept as the reply to it, or a hub refused x with it
 abbrev pub Answers : Trace → Bytes → Bytes → Type 0
-Answers t x r = ((j : ℕ) × Contains (t.items j) (Came x (Some r))) ⊎ ((k : ℕ) × IsRefusedWith t k x r)
+Answers t x r = ((j : ℕ) × HasCame (t.items j) x (Some r)) ⊎ ((k : ℕ) × IsRefusedWith t k x r)
 
 -- b was sent, or a hub keeps it as a refusal, which perhaps nobody waited for
 abbrev pub IsWritten : Trace → Bytes → Type 0
@@ -92,7 +97,7 @@ module _ (p : Profile) where
   -- how node i came to write b
   pub data Origin (t : Trace) (i : ℕ) (b : Bytes) : Type 0 where
     submitted : Contains (t.items i) (Submitted b) → Origin t i b
-    replied : (y : Bytes) → Contains (t.items i) (Came y (Some b)) → Origin t i b
+    replied : (y : Bytes) → HasCame (t.items i) y (Some b) → Origin t i b
     noted : (y : Bytes) (me : Party) → ((k : ℕ) → ¬ (IsBy t k y)) → IsTa1Refusal p me y b → Origin t i b
     refused : (y : Bytes) → IsRefusedWith t i y b → Origin t i b
 
@@ -113,21 +118,21 @@ module _ (p : Profile) where
     pub two_hubs : (i j k : ℕ) → t.hub i ≡ true → t.hub j ≡ true → t.hub k ≡ true → i ≢ j → (k ≡ i) ⊎ (k ≡ j)
     pub at_hub : (k : ℕ) (d : Decision) → Contains (t.decisions k) d → t.hub k ≡ true
     pub sent : (i : ℕ) (x : Bytes) → Contains (t.items i) (Submitted x) → SentOk t i x
-    pub came : (i : ℕ) (b : Bytes) (r : Option Bytes) → Contains (t.items i) (Came b r) → CameOk t i b
-    pub reply : (i : ℕ) (b r : Bytes) → Contains (t.items i) (Came b (Some r)) → ReplyOk t i b r
+    pub came : (i : ℕ) (b : Bytes) (r : Option Bytes) → HasCame (t.items i) b r → CameOk t i b
+    pub reply : (i : ℕ) (b r : Bytes) → HasCame (t.items i) b (Some r) → ReplyOk t i b r
     pub decision : (k : ℕ) (d : Decision) → Contains (t.decisions k) d → DecidedOk t k d.body
     pub refusal : (k : ℕ) (b r : Bytes) → IsRefusedWith t k b r → RefusalOk t k b r
     pub origin : (i : ℕ) (b : Bytes) → IsWritten t b → IsBy t i b → Origin t i b
     pub unique : (i : ℕ) (b c : Bytes) → IsWritten t b → IsWritten t c → IsBy t i b → IsBy t i c → p.number b ≡ p.number c → b ≡ c
     pub below : (i : ℕ) (b : Bytes) → IsWritten t b → IsBy t i b → p.number b ≤ t.last i
     pub packet : (q : Packet) → Contains t.packets q → PacketOk t q
-    pub filed_first : (i : ℕ) (b : Bytes) (r : Option Bytes) → Contains (t.items i) (Came b r) → filed p (t.items i) (p.sender b) (p.number b) ≡ Some (record { body = b; reply = r })
+    pub filed_first : (i : ℕ) (b : Bytes) (r : Option Bytes) → HasCame (t.items i) b r → filed p (t.items i) (p.sender b) (p.number b) ≡ Some (record { body = b; reply = r })
     pub posted : (i : ℕ) → PostedByFiled p (t.items i)
     pub decided_first : (k : ℕ) (d : Decision) → Contains (t.decisions k) d → decided (t.decisions k) d.body ≡ Some d.outcome
     pub groups_apart : (i : ℕ) (x y : Bytes) → Contains (t.items i) (Submitted x) → Contains (t.items i) (Submitted y) → SharesGroup p x y → x ≡ y
     pub groups_below : (i : ℕ) (x : Bytes) (g : ℕ) → Contains (t.items i) (Submitted x) → Contains (p.groups x) g → g ≤ t.group i
     pub answers_once : (i j : ℕ) (x y r : Bytes) → IsBy t i x → IsBy t j y → Answers t x r → Answers t y r → x ≡ y
-    pub order : (i : ℕ) (x r : Bytes) (k : Option Bytes) → Contains (t.items i) (Submitted x) → Contains (t.items i) (Came r k) → Answers t x r → Contains (arrivals_after x (t.items i)) r
+    pub order : (i : ℕ) (x r : Bytes) (k : Option Bytes) → Contains (t.items i) (Submitted x) → HasCame (t.items i) r k → Answers t x r → HasCame (items_after x (t.items i)) r k
 
   -- What one event may add. A submission is one, its groups' numbers rise above all that were used, and it is sent now.
   pub record SentNews (t : Trace) (node : ℕ) (x : Bytes) (group : ℕ) : Type 0 where
@@ -150,8 +155,8 @@ module _ (p : Profile) where
   abbrev pub ItemNews : Trace → ℕ → ℕ → Option Bytes → List Packet → Option Item → Type 0
   ItemNews t node group fresh packets None = Unit {0}
   ItemNews t node group fresh packets (Some (Submitted x)) = SentNews t node x group × (fresh ≡ Some x) × IsSentIn packets x
-  ItemNews t node group fresh packets (Some (Came b None)) = CameNews t node b
-  ItemNews t node group fresh packets (Some (Came b (Some r))) = CameNews t node b × ReplyNews t node b r × (fresh ≡ Some r) × IsSentIn packets r
+  ItemNews t node group fresh packets (Some (Came ed b None)) = CameNews t node b
+  ItemNews t node group fresh packets (Some (Came ed b (Some r))) = CameNews t node b × ReplyNews t node b r × (fresh ≡ Some r) × IsSentIn packets r
 
   abbrev pub OutcomeNews : Trace → ℕ → Option Bytes → Bytes → HubOutcome → Type 0
   OutcomeNews t node fresh b (Boxed to item) = Unit {0}
@@ -169,7 +174,7 @@ module _ (p : Profile) where
 
   pub data Reason (t : Trace) (node : ℕ) (new : Option Item) (decision : Option Decision) (f : Bytes) : Type 0 where
     submits : new ≡ Some (Submitted f) → Reason t node new decision f
-    replies : (y : Bytes) → new ≡ Some (Came y (Some f)) → Reason t node new decision f
+    replies : (y : Bytes) → IsCame new y (Some f) → Reason t node new decision f
     notes : (y : Bytes) (me : Party) → ((k : ℕ) → ¬ (IsBy t k y)) → IsTa1Refusal p me y f → Reason t node new decision f
     refuses : (y : Bytes) → decision ≡ Some (record { body = y; outcome = Refused f }) → Reason t node new decision f
 

@@ -2,10 +2,12 @@
 use Rattle.std.specs.Prelude.{◌≡◌, ℕ, false, Option, Some, None, Contains, refl, ◌⊎◌, IsTrue}
 use mathlib.Core.Path.{sym, ap, subst, ◌∙◌}
 use mathlib.Core.Logic.{inl, inr}
+use Rattle.x12_profile.specs.declared.edition.Edition.{Edition}
+use Rattle.x12_profile.specs.Result.{Rejects, fate_of_result}
 use Rattle.x12_profile.specs.Interchange.{Bytes, PlacedEvidence}
 use Rattle.x12_profile.specs.Profile.{Profile}
 use Rattle.x12_profile.specs.Laws.{Laws}
-use Rattle.x12_station.specs.History.{Submitted, Came, KeptArrival, arrivals, filed, told_in}
+use Rattle.x12_station.specs.History.{HasCame, Submitted, Came, KeptArrival, arrivals, filed, told_in}
 use Rattle.x12_station.specs.Station.{Station}
 use Rattle.x12_hub.specs.Hub.{Hub, Decision, Boxed, Refused}
 use Rattle.x12_core.specs.Packet.{carried}
@@ -19,7 +21,7 @@ use Rattle.x12_world.specs.Held.{IsKept}
 use Rattle.x12_world.specs.Traffic.{IsBoxedFor, IsNode, WasSent, HasSubmitted, TrafficFacts}
 use Rattle.x12_world.specs.Conflict.{NoConflict}
 use Rattle.x12_numbers.proofs.Shelf.{contains_mapped, none_in_nil, some_inj}
-use Rattle.x12_station.proofs.HistoryLemmas.{in_submissions, in_arrivals, after_in_arrivals, told_found, filed_found}
+use Rattle.x12_station.proofs.HistoryLemmas.{in_submissions, came_in_arrivals, after_in_items, told_found, filed_found}
 use Rattle.x12_world.proofs.Traces.{Trace, IsCarried, IsBy, IsRefusedWith, LoadOk}
 use Rattle.x12_world.proofs.WorldLemmas.{trace_of, Sound}
 use Rattle.x12_world.proofs.LearntLemmas.{by_verdict, name_at, items_at, decisions_at, hub_believed, hub_of, learnt, learnt_at}
@@ -36,9 +38,9 @@ module _ (p : Profile) (laws : Laws p) (net : Network) (w : World) (was : Sound 
   sent_item s x h = rw (items_at p laws net w was h.0 s h.1) (in_submissions s.items x h.2)
 
   -- a node that has items is a station
-  pub station_of : (j : ℕ) (x : Bytes) (r : Bytes) → Contains (t.items j) (Came x (Some r)) → (n : Option Node) → node_at w.nodes j ≡ n → (s : Station) × StationAt w j s
-  station_of j x r h None e = absurd (none_in_nil (Came x (Some r)) (rw e at h))
-  station_of j x r h (Some (IsHub k)) e = absurd (none_in_nil (Came x (Some r)) (rw e at h))
+  pub station_of : (j : ℕ) (x : Bytes) (r : Bytes) → HasCame (t.items j) x (Some r) → (n : Option Node) → node_at w.nodes j ≡ n → (s : Station) × StationAt w j s
+  station_of j x r h None e = absurd (none_in_nil (Came h.0 x (Some r)) (rw e at h.1))
+  station_of j x r h (Some (IsHub k)) e = absurd (none_in_nil (Came h.0 x (Some r)) (rw e at h.1))
   station_of j x r h (Some (IsStation s)) e = (s, e)
 
   unique : (b c : Bytes) → WasSent w b → WasSent w c → IsNode w (p.sender b) → p.sender b ≡ p.sender c → p.number b ≡ p.number c → b ≡ c
@@ -74,10 +76,10 @@ module _ (p : Profile) (laws : Laws p) (net : Network) (w : World) (was : Sound 
       ]
 
   kept : (s : Station) (x : Bytes) → HasSubmitted w s x → (j : ℕ) (a : Station) → StationAt w j a → a.me ≡ p.receiver x
-      → (b : Bytes) → WasSent w b → p.sender b ≡ a.me → IsTrue (p.has_header b) → p.refuses s.me b ≡ false → (e : PlacedEvidence) → Contains (p.evidence s.hubs b x) e → Contains a.items (Came x (Some b))
-  kept s x h j a at_j me b sent from header taken e tells =
+      → (b : Bytes) → WasSent w b → p.sender b ≡ a.me → IsTrue (p.has_header b) → (ed : Edition) → p.refuses ed s.me b ≡ false → (e : PlacedEvidence) → Contains (p.evidence ed s.hubs b x) e → HasCame a.items x (Some b)
+  kept s x h j a at_j me b sent from header ed taken e tells =
       let by : IsBy p t j b = name_at p laws net w was j a at_j ∙ ap Some (sym from) in
-      elim (learnt_at p laws net w was h.0 s.me (name_at p laws net w was h.0 s h.1) x b (sent_item s x h) header (λ k by_k. carried_of b sent) taken s.hubs e tells j by) [
+      elim (learnt_at p laws net w was ed h.0 s.me (name_at p laws net w was h.0 s h.1) x b (sent_item s x h) header (λ k by_k. carried_of b sent) taken s.hubs e tells j by) [
         | inl here ↦ rw (items_at p laws net w was j a at_j) at here
         | inr d ↦ let h = hub_of p laws net w was j (record { body = x; outcome = Refused b }) d in absurd (differ (sym h.1 ∙ at_j))
       ]
@@ -87,20 +89,24 @@ module _ (p : Profile) (laws : Laws p) (net : Network) (w : World) (was : Sound 
 
   -- what was told came from one of the two
   pub source : (s : Station) (x : Bytes) (h : HasSubmitted w s x) (to : IsNode w (p.receiver x)) (e : PlacedEvidence) (told : Contains (told_in p s.me s.hubs s.items x) e)
-      → (r : Bytes) × Contains (arrivals s.items) r × Contains (p.evidence s.hubs r x) e × (Contains (t.items to.0) (Came x (Some r)) ⊎ ((k : ℕ) × IsRefusedWith t k x r))
+      → (ed : Edition) × (r : Bytes) × Contains (arrivals s.items) r × Contains (p.evidence ed s.hubs r x) e × (HasCame (t.items to.0) x (Some r) ⊎ ((k : ℕ) × IsRefusedWith t k x r))
   source s x h to e told =
       let from = told_found p s.me s.hubs s.items x e told in
-      let arrived = after_in_arrivals s.items x from.0 from.1 in
-      let came = in_arrivals s.items from.0 arrived in
-      let ok = was.holds.came h.0 from.0 came.0 (rw (items_at p laws net w was h.0 s h.1) came.1) in
-      (from.0, arrived, from.3, learnt p laws net w was h.0 s.me (name_at p laws net w was h.0 s h.1) x from.0 (sent_item s x h) ok.header ok.carried from.2 s.hubs e from.3 to.0 to.1 (hub_believed p laws net w was h.0 s h.1))
+      let came : HasCame s.items from.1 from.2 = (from.0, after_in_items s.items x (Came from.0 from.1 from.2) from.3) in
+      let ok = was.holds.came h.0 from.1 from.2 (rw (items_at p laws net w was h.0 s h.1) came) in (
+        from.0,
+        from.1,
+        came_in_arrivals s.items from.1 from.2 came,
+        from.5,
+        learnt p laws net w was from.0 h.0 s.me (name_at p laws net w was h.0 s h.1) x from.1 (sent_item s x h) ok.header ok.carried from.4 s.hubs e from.5 to.0 to.1 (hub_believed p laws net w was h.0 s h.1),
+      )
 
-  learnt_of : (s : Station) (x : Bytes) → HasSubmitted w s x → IsNode w (p.receiver x) → (e : PlacedEvidence) → Contains (told_in p s.me s.hubs s.items x) e → (r : Bytes) × Contains (arrivals s.items) r × IsKept p w x r × Contains (p.evidence s.hubs r x) e
+  learnt_of : (s : Station) (x : Bytes) → HasSubmitted w s x → IsNode w (p.receiver x) → (e : PlacedEvidence) → Contains (told_in p s.me s.hubs s.items x) e → (ed : Edition) × (r : Bytes) × Contains (arrivals s.items) r × IsKept p w x r × Contains (p.evidence ed s.hubs r x) e
   learnt_of s x h to e told =
       let from = source s x h to e told in
-      (from.0, from.1, is from.0 from.3, from.2)
+      (from.0, from.1, from.2, is from.1 from.4, from.3)
     where
-      is : (r : Bytes) → (Contains (t.items to.0) (Came x (Some r)) ⊎ ((k : ℕ) × IsRefusedWith t k x r)) → IsKept p w x r
+      is : (r : Bytes) → (HasCame (t.items to.0) x (Some r) ⊎ ((k : ℕ) × IsRefusedWith t k x r)) → IsKept p w x r
       is r (inl came) =
           let a = station_of to.0 x r came (node_at w.nodes to.0) refl in
           let me : Some a.0.me ≡ Some (p.receiver x) = sym (name_at p laws net w was to.0 a.0 a.1) ∙ to.1 in
@@ -120,26 +126,26 @@ module _ (p : Profile) (laws : Laws p) (net : Network) (w : World) (was : Sound 
       reply_of (Some f) = f.reply
 
   -- the two sources never tell two things
-  one : (s : Station) (x : Bytes) → HasSubmitted w s x → IsNode w (p.receiver x) → (e f : PlacedEvidence) → Contains (told_in p s.me s.hubs s.items x) e → Contains (told_in p s.me s.hubs s.items x) f → e.place ≡ f.place → e.accepts ≡ f.accepts
+  one : (s : Station) (x : Bytes) → HasSubmitted w s x → IsNode w (p.receiver x) → (e f : PlacedEvidence) → Contains (told_in p s.me s.hubs s.items x) e → Contains (told_in p s.me s.hubs s.items x) f → e.place ≡ f.place → e.fate ≡ f.fate
   one s x h to e f te tf place =
       let a = source s x h to e te in
       let b = source s x h to f tf in
-      both a.0 a.2 a.3 b.0 b.2 b.3
+      both a.0 a.1 a.3 a.4 b.0 b.1 b.3 b.4
     where
-      both : (r : Bytes) → Contains (p.evidence s.hubs r x) e → (Contains (t.items to.0) (Came x (Some r)) ⊎ ((k : ℕ) × IsRefusedWith t k x r))
-          → (q : Bytes) → Contains (p.evidence s.hubs q x) f → (Contains (t.items to.0) (Came x (Some q)) ⊎ ((k : ℕ) × IsRefusedWith t k x q)) → e.accepts ≡ f.accepts
-      both r er (inl cr) q fq (inl cq) =
+      both : (ed : Edition) (r : Bytes) → Contains (p.evidence ed s.hubs r x) e → (HasCame (t.items to.0) x (Some r) ⊎ ((k : ℕ) × IsRefusedWith t k x r))
+          → (by : Edition) (q : Bytes) → Contains (p.evidence by s.hubs q x) f → (HasCame (t.items to.0) x (Some q) ⊎ ((k : ℕ) × IsRefusedWith t k x q)) → e.fate ≡ f.fate
+      both ed r er (inl cr) by q fq (inl cq) =
           let filed_one : ◌≡◌ {A = Option KeptArrival} (Some (record { body = x; reply = Some r })) (Some (record { body = x; reply = Some q })) = sym (was.holds.filed_first to.0 x (Some r) cr) ∙ was.holds.filed_first to.0 x (Some q) cq in
           let same : r ≡ q = reply_inj x r q filed_one in
-          let tells = kept_tells p laws net w was h.0 s h.1 x h.2 r to.0 cr to.1 s.hubs in
-          let ve = by_verdict tells.0 (p.sets x) e (rw tells.1 at er) in
-          let vf = by_verdict tells.0 (p.sets x) f (rw tells.1 at (subst (λ z. Contains (p.evidence s.hubs z x) f) (sym same) fq)) in
-          ve.0 ∙ ap tells.0 place ∙ sym vf.0
-      both r er (inl cr) q fq (inr dq) = refused_nowhere p laws net w was h.0 s h.1 x h.2 dq.0 q dq.1 to.0 (Some r) cr
-      both r er (inr dr) q fq (inl cq) = refused_nowhere p laws net w was h.0 s h.1 x h.2 dr.0 r dr.1 to.0 (Some q) cq
-      both r er (inr dr) q fq (inr dq) =
-          let ve = by_verdict (λ k. false) (p.sets x) e (rw (refused_tells p laws net w was h.0 s h.1 x h.2 dr.0 r dr.1) at er) in
-          let vf = by_verdict (λ k. false) (p.sets x) f (rw (refused_tells p laws net w was h.0 s h.1 x h.2 dq.0 q dq.1) at fq) in
+          let tells = kept_tells p laws net w was h.0 s h.1 x h.2 r to.0 cr to.1 in
+          let ve = by_verdict tells.0 (p.sets x) e (rw (tells.1 ed s.hubs) at er) in
+          let vf = by_verdict tells.0 (p.sets x) f (rw (tells.1 by s.hubs) at (subst (λ z. Contains (p.evidence by s.hubs z x) f) (sym same) fq)) in
+          ve.0 ∙ ap (λ z. fate_of_result (tells.0 z)) place ∙ sym vf.0
+      both ed r er (inl cr) by q fq (inr dq) = refused_nowhere p laws net w was h.0 s h.1 x h.2 dq.0 q dq.1 to.0 (Some r) cr
+      both ed r er (inr dr) by q fq (inl cq) = refused_nowhere p laws net w was h.0 s h.1 x h.2 dr.0 r dr.1 to.0 (Some q) cq
+      both ed r er (inr dr) by q fq (inr dq) =
+          let ve = by_verdict (λ k. Rejects) (p.sets x) e (rw (refused_tells p laws net w was h.0 s h.1 x h.2 ed dr.0 r dr.1) at er) in
+          let vf = by_verdict (λ k. Rejects) (p.sets x) f (rw (refused_tells p laws net w was h.0 s h.1 x h.2 by dq.0 q dq.1) at fq) in
           ve.0 ∙ sym vf.0
 
   other : (b : Bytes) → WasSent w b → IsNode w (p.sender b) → (j : ℕ) (s : Station) → StationAt w j s → (f : KeptArrival) → filed p s.items (p.sender b) (p.number b) ≡ Some f → f.body ≡ b

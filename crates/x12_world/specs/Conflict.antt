@@ -13,7 +13,7 @@ module _ (p : Profile) where
     -- all that a station was ever told of a set that it addressed to a node says the same
     pub one_fate : (s : Station) (x : Bytes) → HasSubmitted w s x → IsNode w (p.receiver x)
         → (e f : PlacedEvidence) → Contains (told_in p s.me s.hubs s.items x) e
-        → Contains (told_in p s.me s.hubs s.items x) f → e.place ≡ f.place → e.accepts ≡ f.accepts
+        → Contains (told_in p s.me s.hubs s.items x) f → e.place ≡ f.place → e.fate ≡ f.fate
     -- what bears a node's name is never other bytes under a filed number
     pub never_other : (b : Bytes) → WasSent w b → IsNode w (p.sender b) → (j : ℕ) (s : Station)
         → StationAt w j s → (f : KeptArrival) → filed p s.items (p.sender b) (p.number b) ≡ Some f

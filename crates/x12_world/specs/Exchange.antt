@@ -2,6 +2,7 @@
 -- restarts. A world refines it: each event is one of its three steps or none.
 use Rattle.std.specs.Prelude.{◌≡◌, ◌≢◌, ◌⊎◌, ◌↔◌, ℕ, List, [], ◌∷◌, Bool, false, if◌then◌else◌, Contains}
 use Rattle.x12_envelopes.specs.declared.party.Party.{Party}
+use Rattle.x12_profile.specs.Result.{SetResult, Rejects, takes, fate_of_result}
 use Rattle.x12_profile.specs.Interchange.{Bytes, PlaceOfSet, PlacedTransactionSet}
 use Rattle.x12_profile.specs.Profile.{Profile}
 use Rattle.x12_station.specs.History.{Posting, fate_in, postings, posted_under, key_of, posting_of}
@@ -10,18 +11,19 @@ use Rattle.x12_world.specs.World.{World, Event, StationAt}
 use Rattle.x12_world.specs.Traffic.{HasSubmitted}
 use Rattle.x12_world.specs.Network.{Network, IsNetwork}
 use Rattle.x12_world.specs.Run.{happens, new_world}
-use Rattle.x12_outbound.specs.declared.fate.Fate.TheVariants.{Pending, Accepted, Rejected}
+use Rattle.x12_outbound.specs.Fate.{ended}
+use Rattle.x12_outbound.specs.declared.fate.Fate.TheVariants.{Pending}
 use Rattle.x12_outbound.specs.declared.fate.Fate.{Fate}
 
 -- a verdict on an interchange's sets: its receiver's, or a hub's, which rejects each
 pub data ExchangeVerdict : Type 0 where
-  ByReceiver : (PlaceOfSet → Bool) → ExchangeVerdict
+  ByReceiver : (PlaceOfSet → SetResult) → ExchangeVerdict
   ByHub : ExchangeVerdict
 
--- whether a verdict accepts the set at a place
-abbrev pub verdict_accepts : ExchangeVerdict → PlaceOfSet → Bool
-verdict_accepts (ByReceiver v) k = v k
-verdict_accepts ByHub k = false
+-- what a verdict says of the set at a place
+abbrev pub result_of : ExchangeVerdict → PlaceOfSet → SetResult
+result_of (ByReceiver v) k = v k
+result_of ByHub k = Rejects
 
 -- how far an interchange is: not submitted; submitted; its verdict written; and learnt by its
 -- sender
@@ -46,14 +48,14 @@ abbrev pub fate_of : Standing → PlaceOfSet → Fate
 fate_of Unknown k = Pending
 fate_of Waiting k = Pending
 fate_of (Judged v) k = Pending
-fate_of (Learnt v) k = if verdict_accepts v k then Accepted else Rejected
+fate_of (Learnt v) k = ended (fate_of_result (result_of v k))
 
 -- whether its receiver has posted it: as soon as the verdict is written
 abbrev pub is_posted : Standing → PlaceOfSet → Bool
 is_posted Unknown k = false
 is_posted Waiting k = false
-is_posted (Judged v) k = verdict_accepts v k
-is_posted (Learnt v) k = verdict_accepts v k
+is_posted (Judged v) k = takes (result_of v k)
+is_posted (Learnt v) k = takes (result_of v k)
 
 -- the bytes that are posted of a set
 abbrev pub posted_of : Standing → PlacedTransactionSet → List Bytes

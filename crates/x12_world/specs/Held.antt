@@ -3,7 +3,7 @@
 use Rattle.std.specs.Prelude.{◌≡◌, ℕ, List, Some, Contains, ◌⊎◌}
 use Rattle.x12_profile.specs.Interchange.{Bytes, PlacedTransactionSet}
 use Rattle.x12_profile.specs.Profile.{Profile}
-use Rattle.x12_station.specs.History.{Came, submissions, arrivals, fate_in, posted_under, key_of}
+use Rattle.x12_station.specs.History.{HasCame, submissions, arrivals, fate_in, posted_under, key_of}
 use Rattle.x12_station.specs.Station.{Station}
 use Rattle.x12_hub.specs.Hub.{Hub, refused_with}
 use Rattle.x12_world.specs.World.{World, StationAt, HubAt}
@@ -23,7 +23,7 @@ module _ (p : Profile) where
   -- r is x's kept acknowledgment: its receiver filed it as the reply, or a hub refused x with it
   abbrev pub IsKept : World → Bytes → Bytes → Type 0
   IsKept w x r = ((j : ℕ) × (s : Station) × StationAt w j s × (s.me ≡ p.receiver x)
-      × Contains s.items (Came x (Some r)))
+      × HasCame s.items x (Some r))
       ⊎ ((k : ℕ) × (h : Hub) × HubAt w k h × Contains h.decisions (refused_with x r))
 
   -- x's kept acknowledgment stands among the arrivals of node i, whoever submitted x

@@ -3,9 +3,10 @@
 -- only for what it adds.
 use Rattle.std.specs.Prelude.{◌≡◌, ◌⊎◌, ℕ, Some, Contains, IsTrue, false}
 use Rattle.x12_envelopes.specs.declared.party.Party.{Party}
+use Rattle.x12_profile.specs.declared.edition.Edition.{Edition}
 use Rattle.x12_profile.specs.Interchange.{Bytes, PlacedEvidence}
 use Rattle.x12_profile.specs.Profile.{Profile}
-use Rattle.x12_station.specs.History.{Came, submissions, arrivals, told_in}
+use Rattle.x12_station.specs.History.{HasCame, submissions, arrivals, told_in}
 use Rattle.x12_station.specs.Station.{Station}
 use Rattle.x12_hub.specs.Hub.{Hub, Decision, Boxed, refused_with}
 use Rattle.x12_core.specs.Packet.{Item, carried}
@@ -43,8 +44,9 @@ module _ (p : Profile) where
     pub kept_reply : (s : Station) (x : Bytes) → HasSubmitted w s x → (j : ℕ) (a : Station)
         → StationAt w j a → a.me ≡ p.receiver x
         → (b : Bytes) → WasSent w b → p.sender b ≡ a.me → IsTrue (p.has_header b)
-        → p.refuses s.me b ≡ false → (e : PlacedEvidence) → Contains (p.evidence s.hubs b x) e
-        → Contains a.items (Came x (Some b))
+        → (by : Edition) → p.refuses by s.me b ≡ false
+        → (e : PlacedEvidence) → Contains (p.evidence by s.hubs b x) e
+        → HasCame a.items x (Some b)
     -- A hub's refusal of bytes and its forwarding of them exclude each other for good, and an item
     -- is what its hub put into the mailbox of the node that it goes to. Else a set could be rejected
     -- by a hub first, and accepted and posted by its receiver later.
@@ -65,5 +67,5 @@ module _ (p : Profile) where
     -- reply, or a hub's kept refusal. Else a fate could come from elsewhere, and say anything.
     pub learnt_from : (s : Station) (x : Bytes) → HasSubmitted w s x → IsNode w (p.receiver x)
         → (e : PlacedEvidence) → Contains (told_in p s.me s.hubs s.items x) e
-        → (r : Bytes) × Contains (arrivals s.items) r × IsKept p w x r
-        × Contains (p.evidence s.hubs r x) e
+        → (by : Edition) × (r : Bytes) × Contains (arrivals s.items) r × IsKept p w x r
+        × Contains (p.evidence by s.hubs r x) e

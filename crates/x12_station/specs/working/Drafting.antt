@@ -5,13 +5,13 @@ use Rattle.x12_envelopes.specs.declared.header.Header.{Header}
 use Rattle.x12_envelopes.specs.declared.moment.Moment.{Moment}
 use Rattle.x12_envelopes.specs.declared.party.Party.{Party}
 use Rattle.x12_judge.specs.Agreement.{TradingAgreement}
-use Rattle.x12_judge.specs.Verdict.{judgement_of}
 use Rattle.x12_acks.specs.declared.need.Needs.{Needs as CodeNeeds}
 use Rattle.x12_acks.specs.Reply.{due_reply}
 use Rattle.x12_inbound.specs.Arrival.{filing_of, arrival, ArePostingsOf}
 use Rattle.x12_inbound.specs.Filing.{reply_bytes}
+use Rattle.x12_profile.specs.declared.edition.Edition.{Edition}
 use Rattle.x12_profile.specs.Interchange.{Bytes, Needs, book_for, is_within}
-use Rattle.x12_profile.specs.X12.{needs_of}
+use Rattle.x12_profile.specs.X12.{judged_by, needs_of}
 use Rattle.x12_station.specs.declared.fault.StationFault.{StationFault}
 use Rattle.x12_station.specs.declared.fault.StationFault.TheVariants.{Exhausted}
 use Rattle.x12_station.specs.declared.replying.Draft.{Draft}
@@ -24,17 +24,17 @@ needs_view n = record { reply = n.reply; group = n.group }
 abbrev pub exhausted : Bool → Option StationFault
 exhausted spent = if spent then Some Exhausted else None
 
--- The reply that is due at this station under these agreements, written under the numbers that
--- follow these, and the arrival filed with it.
-pub record IsDraft (me : Party) (agreements : List TradingAgreement) (at : Moment)
+-- The reply that is due by this edition at this station under these agreements, written under the
+-- numbers that follow these, and the arrival filed with it.
+pub record IsDraft (by : Edition) (me : Party) (agreements : List TradingAgreement) (at : Moment)
     (last : Numbers) (h : Header) (b : Bytes) (d : Draft) : Type 0 where
-  pub book : d.book ≡ book_for last (needs_of me agreements b h)
+  pub book : d.book ≡ book_for last (needs_of by me agreements b h)
   pub reply :
       reply_bytes d.reply
-      ≡ due_reply h (judgement_of me agreements h b) me at d.book.interchange d.book.group
+      ≡ due_reply h (judged_by by me agreements h b) me at d.book.interchange d.book.group
   pub kept :
       d.kept
-      ≡ filing_of (arrival h.sender h.icn b) (judgement_of me agreements h b)
+      ≡ filing_of (arrival h.sender h.icn b) (judged_by by me agreements h b)
       (reply_bytes d.reply)
   pub theirs : ArePostingsOf d.kept.filed d.kept.postings
   pub within : IsTrue (is_within d.book)

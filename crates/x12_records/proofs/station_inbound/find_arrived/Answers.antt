@@ -27,5 +27,5 @@ returns g c = record {
       let found = arrival_numbered s seq in
       let got : Shown came_text (Int (pos (asked_as seq)) ∷ []) old new rows = rw (to_z-of_z w64 c.key_asked.result (record { sfits = c.key_asked.type_inv }), c.key_asked.ensures) at (c.in_ok-rows.ensures.shown is_open) in
       let kept = c.in_ok-filing_in.ensures (option_map (λ (r : StoredArrival). r.filed) found) (c.deref.ensures.value ∙ finds_came seq old new rows has.0.agreement s (valid.sound opened) (valid.holds opened).has got) in
-      c.item_of.ensures ∙ ap (option_map item_kept) kept ∙ arrived_item found;
+      c.item_of.ensures seq ∙ ap (option_map (item_kept seq)) kept ∙ arrived_item seq found;
 }

@@ -3,7 +3,8 @@ use Rattle.std.specs.Global.{Global}
 use Rattle.sqlite.specs.Held.{state}
 use Rattle.x12_station.specs.Stored.{Stored}
 use Rattle.x12_records.specs.StationContent.{content_of}
-use Rattle.x12_records.specs.StationFinds.{arrival_numbered, item_arrived}
+use Rattle.x12_station.specs.Durable.{item_of_arrival}
+use Rattle.x12_records.specs.StationFinds.{arrival_numbered}
 use Rattle.x12_records.proofs.ReadLemmas.{answers_made, answers_then, station_still, station_same}
 use Rattle.x12_records.proofs.StationItemLemmas.{sent_item, arrived_else}
 use Rattle.x12_records.proofs.station_inbound.find_item.Goals as goal
@@ -24,5 +25,5 @@ returns-in-None g c =
       station_still old mid first.reads has,
       λ o told.
           let none = sym (ap (option_map (λ (v : Vec ℕ Global). v.items)) c.in-None.is) ∙ first.found has opened in
-          told ∙ ap (λ (s : Stored). option_map item_arrived (arrival_numbered s c.args.seq)) (station_same old mid first.reads has opened) ∙ arrived_else (content_of old.now.trees) c.args.seq none,
+          told ∙ ap (λ (s : Stored). option_map (item_of_arrival c.args.seq) (arrival_numbered s c.args.seq)) (station_same old mid first.reads has opened) ∙ arrived_else (content_of old.now.trees) c.args.seq none,
     ))

@@ -1,4 +1,7 @@
-use Rattle.std.proofs.Common.{◌∙◌, ap, sym, map}
+use Rattle.std.proofs.Common.{◌+◌, ◌∙◌, ap, sym, map}
+use Rattle.x12_inbound.specs.Arrival.{arrived_view}
+use Rattle.x12_profile.specs.Edition.{edition_at}
+use Rattle.x12_profile.proofs.FieldLemmas as field
 use Rattle.x12_judge.specs.Agreement.{agreement_view}
 use Rattle.x12_judge.specs.Verdict.{judgement_view}
 use Rattle.x12_station.proofs.DraftLemmas.{group_is_due}
@@ -15,6 +18,8 @@ judge-requires c = record {
   is_header = c.requires.read;
   partner = ap (λ a. a.partner) (sym c.requires.filed);
   icn = ap (λ a. a.icn) (sym c.requires.filed);
-  judgement = c.requires.judged;
+  judgement =
+      c.requires.judged
+      ∙ field.is_first (edition_at (c.args.memory.now.seq + 1)) c.args.memory.now.me (map agreement_view c.args.memory.now.agreements.items) c.args.header.now (arrived_view c.args.arrived).bytes;
   reply = record { at = c.args.at.now; icn = c.in_ok-book.book.interchange; gcn = c.in_ok-book.book.group; is = c.in_ok-reply.ensures };
 }

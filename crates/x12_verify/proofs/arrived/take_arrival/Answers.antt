@@ -22,6 +22,6 @@ returns-clause-right g c = λ answers.
     record {
       header = has_header_is b h known;
       filed = c.in_ok-test_filed.ensures.filed answers;
-      answered = subst (λ (p : Party). WasAnswered p book (filed_rightly b r)) c.in_ok-own.ensures.me
-          (was_answered b h known (map agreement_view c.in-Some.due.agreements.items) (record own { at = c.in-Some.due.at }) r due book c.in_ok-own.ensures.icn.0 c.in_ok-own.ensures.gcn.0);
+      answered = λ by. subst (λ (p : Party). WasAnswered by p book (filed_rightly b r)) c.in_ok-own.ensures.me
+          (was_answered b h known (map agreement_view c.in-Some.due.agreements.items) (record own { at = c.in-Some.due.at }) r due book c.in_ok-own.ensures.icn.0 c.in_ok-own.ensures.gcn.0 by);
     }

@@ -1,0 +1,55 @@
+//! The edition of the rules by which a station judges and reads an arrival.
+
+ghost use Rattle.std.specs.Prelude.{◌≡◌, ◌+◌, IfOk, Ok, map};
+ghost use Rattle.x12_envelopes.specs.Header.{header_of};
+ghost use Rattle.x12_judge.specs.Agreement.{agreement_view};
+ghost use Rattle.x12_judge.specs.Verdict.{judgement_view};
+ghost use Rattle.x12_profile.specs.Edition.{edition_at};
+ghost use Rattle.x12_profile.specs.X12.{judged_by};
+
+use std::alloc::{AllocError, Global};
+use x12_envelopes::{Header, Party};
+use x12_judge::{Agreement, Judgement, judge};
+
+/// An edition of the rules by which a station judges and reads an arrival. There is one so far.
+#[derive(Clone, Copy)]
+pub enum Edition {
+    /// 004010, in envelopes of the control versions 00200 to 00401.
+    First,
+}
+
+impl Edition {
+    /// The edition of what has this number, from 1, in a station's history.
+    pub fn at(number: u64) -> Edition
+        ensures { result ≡ edition_at number }
+    {
+        Edition::First
+    }
+
+    /// The edition of what comes next where this number is the last in a station's history.
+    pub fn after(last: u64) -> Edition
+        ensures { result ≡ edition_at (last + 1) }
+    {
+        Edition::First
+    }
+
+    /// What an interchange deserves at this station, under these agreements, by this edition. The
+    /// header is that of the bytes, as `read_header` gives it. Answers an error for want of memory
+    /// alone.
+    pub fn judge<'a>(
+        self,
+        alloc: Global,
+        me: &Party,
+        agreements: &[Agreement],
+        bytes: &'a [u8],
+        header: &Header,
+    ) -> Result<Judgement<'a>, AllocError>
+        requires read { header_of bytes.now ≡ Ok header.now }
+        ensures { let ags = map agreement_view agreements.now in IfOk result (λ j.
+            judgement_view j ≡ judged_by self me.now ags header.now bytes.now) }
+    {
+        match self {
+            Edition::First => judge(alloc, me, agreements, bytes, header),
+        }
+    }
+}
