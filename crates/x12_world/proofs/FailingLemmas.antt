@@ -17,7 +17,7 @@ use Rattle.x12_station.specs.declared.fault.StationFault.TheVariants as station
 use Rattle.x12_world.specs.declared.refused.Refused.{Refused}
 use Rattle.x12_world.specs.declared.refused.Refused.TheVariants as refused
 use Rattle.x12_world.specs.declared.hubs.Hubs.{Hubs as CodeHubs}
-use Rattle.x12_world.specs.Failing.{OneFailed, SaysOneFailed, failures_beside, failures_of, station_failures}
+use Rattle.x12_world.specs.Failing.{CountsOne, CountsStation, OneFailed, SaysFailed, SaysOneFailed, failures_beside, failures_of, station_failures}
 use Rattle.x12_world.specs.Running.{second_failures}
 use Rattle.x12_world.specs.RefusedNumber.{refused_by_core}
 use Rattle.x12_world.proofs.NetworkLemmas.{get_left}
@@ -39,6 +39,9 @@ one_of_more old new more f = record {
   others = ap (λ l. l ++ more) f.others ∙ sym (set_more old more f.place f.after f.before f.was);
 }
 
+beside_first : (h : ℕ) (old new more : List ℕ) → OneFailed old new → OneFailed ((h ∷ old) ++ more) ((h ∷ new) ++ more)
+beside_first h old new more f = one_of_more (h ∷ old) (h ∷ new) more (record { place = suc f.place; before = f.before; after = f.after; was = f.was; rose = f.rose; others = ap (λ ns. h ∷ ns) f.others })
+
 pub station_failed : {R : Type 0} → (h : ℕ) (ss : List (StationView R)) (node : ℕ) (old new : StationView R) → 1 ≤ node → node ≤ length ss → old ≡ get_or ss (node - 1) old
     → CountRose old.failures new.failures → OneFailed (h ∷ station_failures ss) (h ∷ station_failures (set ss (node - 1) new))
 station_failed h ss node old new low high is rose = record {
@@ -54,6 +57,78 @@ station_failed h ss node old new low high is rose = record {
       ap (λ ns. h ∷ ns) (map-set (λ (s : StationView _). s.failures) ss (node - 1) new)
       ∙ sym (set_behind h new.failures (station_failures ss) node low);
 }
+
+-- one station failed, of these
+pub failed_among : {R : Type 0} → (ss : List (StationView R)) (i : ℕ) (old new : StationView R) → i < length ss → old ≡ get_or ss i old
+    → CountRose old.failures new.failures → OneFailed (station_failures ss) (station_failures (set ss i new))
+failed_among ss i old new within is rose = record {
+  place = i;
+  before = old.failures;
+  after = new.failures;
+  was = slice_get-map (λ (s : StationView _). s.failures) ss i ∙ rw (slice_get-get_or ss i old within) (ap (λ (s : StationView _). Some s.failures) (sym is));
+  rose = rose;
+  others = map-set (λ (s : StationView _). s.failures) ss i new;
+}
+
+set_alike : (ns : List ℕ) (i n : ℕ) → slice_get ns i ≡ Some n → set ns i n ≡ ns
+set_alike [] i n e = absurd cc
+set_alike (m ∷ ns) zero n e = let same : m ≡ n = cc in ap (λ k. k ∷ ns) (sym same)
+set_alike (m ∷ ns) (suc i) n e = ap (λ l. m ∷ l) (set_alike ns i n e)
+
+pub counts_alike : {R : Type 0} → (ss : List (StationView R)) (i : ℕ) (old new : StationView R) → i < length ss → old ≡ get_or ss i old
+    → new.failures ≡ old.failures → station_failures (set ss i new) ≡ station_failures ss
+counts_alike ss i old new within is same =
+    map-set (λ (s : StationView _). s.failures) ss i new
+    ∙ set_alike (station_failures ss) i new.failures
+    (slice_get-map (λ (s : StationView _). s.failures) ss i ∙ rw (slice_get-get_or ss i old within) (ap (λ (s : StationView _). Some s.failures) (sym is) ∙ ap Some (sym same)))
+
+says_among : (e : Refused) (old new : ℕ) (olds news : List ℕ) → SaysFailed e old new → (CountRose old new → OneFailed olds news) → SaysOneFailed e olds news
+says_among (refused.Node (OfStation fault)) old new olds news says failed = λ is. failed (says is)
+says_among (refused.Node (OfHub fault)) old new olds news says failed = λ is. absurd says
+says_among refused.NoSuchPacket old new olds news says failed = tt
+says_among refused.SpokenFor old new olds news says failed = tt
+says_among refused.NoSuchNode old new olds news says failed = tt
+says_among refused.Memory old new olds news says failed = tt
+says_among refused.BadNetwork old new olds news says failed = tt
+says_among refused.Exhausted old new olds news says failed = tt
+
+-- a call of one of these stations is a call of them
+pub counts_among : {A R : Type 0} (r : Result A Refused) (ss : List (StationView R)) (i : ℕ) (old new : StationView R) → i < length ss → old ≡ get_or ss i old
+    → CountsStation r old.failures new.failures → CountsOne r (station_failures ss) (station_failures (set ss i new))
+counts_among (Ok a) ss i old new within is counts = record { ok = counts_alike ss i old new within is counts.ok; refused = tt }
+counts_among (Err e) ss i old new within is counts = record {
+  ok = tt;
+  refused = says_among e old.failures new.failures (station_failures ss) (station_failures (set ss i new)) counts.refused (failed_among ss i old new within is);
+}
+
+-- behind calls that counted nothing
+pub counts_behind : {A : Type 0} (r : Result A Refused) (old mid new : List ℕ) → mid ≡ old → CountsOne r mid new → CountsOne r old new
+counts_behind r old mid new same counts = subst (λ ns. CountsOne r ns new) same counts
+
+-- a refusal that is handed on
+pub counts_handed : {A B : Type 0} (r : Result A Refused) (e : Refused) (old new : List ℕ) → IsErrAnd r (λ f. f ≡ e) → CountsOne {A = B} (Err e) old new → CountsOne r old new
+counts_handed (Ok a) e old new is counts = absurd is
+counts_handed (Err f) e old new is counts = record { ok = tt; refused = subst (λ (g : Refused). SaysOneFailed g old new) (sym is) counts.refused }
+
+-- a fault that a station gave
+pub counts_told : {A : Type 0} (r : Result A Refused) (fault : StationFault) (old new : List ℕ) → IsErrAnd r (λ e. e ≡ refused.Node (OfStation fault)) → (fault ≡ station.Store → OneFailed old new) → CountsOne r old new
+counts_told (Ok a) fault old new is failed = absurd is
+counts_told (Err e) fault old new is failed = record { ok = tt; refused = subst (λ (f : Refused). SaysOneFailed f old new) (sym is) failed }
+
+says_beside : (e : Refused) (h : ℕ) (old new more : List ℕ) → SaysOneFailed e old new → SaysOneFailed e ((h ∷ old) ++ more) ((h ∷ new) ++ more)
+says_beside (refused.Node (OfStation fault)) h old new more says = λ is. beside_first h old new more (says is)
+says_beside (refused.Node (OfHub fault)) h old new more says = λ is. beside_first h old new more (says is)
+says_beside refused.NoSuchPacket h old new more says = tt
+says_beside refused.SpokenFor h old new more says = tt
+says_beside refused.NoSuchNode h old new more says = tt
+says_beside refused.Memory h old new more says = tt
+says_beside refused.BadNetwork h old new more says = tt
+says_beside refused.Exhausted h old new more says = tt
+
+-- the hubs weren't asked
+pub counts_beside : {A H R : Type 0} (r : Result A Refused) (h : CodeHubs H) (old new : List (StationView R)) → CountsOne r (station_failures old) (station_failures new) → CountsOne r (failures_of h old) (failures_of h new)
+counts_beside (Ok a) h old new counts = record { ok = ap (failures_beside h) counts.ok; refused = tt }
+counts_beside (Err e) h old new counts = record { ok = tt; refused = says_beside e h.first.failures (station_failures old) (station_failures new) (second_failures h.second) counts.refused }
 
 pub failed_behind : {H R : Type 0} → (h : CodeHubs H) (ss : List (StationView R)) (i : ℕ) (old new : StationView R) → i < length ss → old ≡ get_or ss i old
     → CountRose old.failures new.failures → OneFailed (failures_of h ss) (failures_of h (set ss i new))

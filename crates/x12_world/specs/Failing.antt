@@ -1,5 +1,5 @@
 -- How often the records of the nodes failed, and that no refusal says so where none did.
-use Rattle.std.specs.Prelude.{◌≡◌, ℕ, List, ◌∷◌, ◌++◌, Some, map, set, slice_get}
+use Rattle.std.specs.Prelude.{◌≡◌, ℕ, List, ◌∷◌, ◌++◌, Some, map, set, slice_get, Result, OnOk, IfErr}
 use Rattle.x12_hub.specs.declared.fault.HubFault.TheVariants as hub
 use Rattle.x12_numbers.specs.Count.{CountRose}
 use Rattle.x12_station.specs.Seen.{StationView}
@@ -40,3 +40,24 @@ SaysOneFailed code.NoSuchNode old new = Unit {0}
 SaysOneFailed code.Memory old new = Unit {0}
 SaysOneFailed code.BadNetwork old new = Unit {0}
 SaysOneFailed code.Exhausted old new = Unit {0}
+
+-- where a refusal says that this station's records failed, this was counted; it says so of no hub
+abbrev pub SaysFailed : Refused → (old new : ℕ) → Type 0
+SaysFailed (code.Node (OfStation fault)) old new = fault ≡ station.Store → CountRose old new
+SaysFailed (code.Node (OfHub fault)) old new = ⊥
+SaysFailed code.NoSuchPacket old new = Unit {0}
+SaysFailed code.SpokenFor old new = Unit {0}
+SaysFailed code.NoSuchNode old new = Unit {0}
+SaysFailed code.Memory old new = Unit {0}
+SaysFailed code.BadNetwork old new = Unit {0}
+SaysFailed code.Exhausted old new = Unit {0}
+
+-- How a call of one station counts: an Ok leaves the count as it was.
+pub record CountsStation {A : Type 0} (r : Result A Refused) (old new : ℕ) : Type 0 where
+  pub ok : OnOk r (new ≡ old)
+  pub refused : IfErr r (λ e. SaysFailed e old new)
+
+-- How a call of a network counts: an Ok leaves each count as it was.
+pub record CountsOne {A : Type 0} (r : Result A Refused) (old new : List ℕ) : Type 0 where
+  pub ok : OnOk r (new ≡ old)
+  pub refused : IfErr r (λ e. SaysOneFailed e old new)

@@ -9,6 +9,9 @@ ghost use Rattle.x12_profile.specs.X12.{x12};
 ghost use Rattle.x12_station.specs.Fault.{IsOfRecords};
 ghost use Rattle.x12_station.specs.History.{submissions};
 ghost use Rattle.x12_station.specs.Key.{own_set};
+ghost use Rattle.x12_station.specs.declared.fault.StationFault.TheVariants.{Store};
+ghost use Rattle.x12_profile.specs.Stop.{CountsFailures};
+ghost use Rattle.x12_world.specs.Failing.{CountsOne, CountsStation, station_failures};
 ghost use Rattle.x12_world.specs.Asking.{states_of, IsMissed};
 ghost use Rattle.x12_world.specs.Audit.{audit, station_named};
 ghost use Rattle.x12_world.specs.Auditing.{audit_view, posted_bytes, found_under, held_under};
@@ -81,6 +84,8 @@ fn interchange_of<R: Records>(
         IfOk result (λ o. own_set x12 station.old.state.items (key_view key.now)
         ≡ option_and_then (set_under (key_view key.now)) (option_map (λ v. v.items) o)) }
     ensures fault { IfErr result IsOfRecords }
+    ensures store { CountsFailures result (λ f. f ≡ Store)
+        station.old.failures station.new.failures }
 {
     station.submission(key.icn)
 }
@@ -96,6 +101,7 @@ fn held_at<R: Records>(
     ensures held { IsTrue station.new.answers → NumbersRise station.old.state → IfOk result (λ o.
         option_map held_set_view o ≡ held_under station.old.state (key_view key.now)) }
     ensures refused { IfErr result IsMissed }
+    ensures store { CountsStation result station.old.failures station.new.failures }
 {
     let Some(bytes) = interchange_of(station, key)? else {
         return Ok(None);
@@ -129,6 +135,8 @@ pub(crate) fn held_by_sender<R: Records>(
     ensures refused { IfErr result (λ r. IsMissed r × (is_some
         (station_among (states_of stations.old.items) key.now.sender) ≡ true)) }
     ensures len { length stations.new.items ≡ length stations.old.items }
+    ensures store { CountsOne result
+        (station_failures stations.old.items) (station_failures stations.new.items) }
 {
     let Ok(place) = place_of(&key.sender, stations) else {
         return Ok(None);
@@ -152,6 +160,8 @@ fn found_by_receiver<R: Records>(
         (station_among (states_of stations.old.items) party.now) (key_view key.now) bytes.now) }
     ensures refused { IfErr result IsMissed }
     ensures len { length stations.new.items ≡ length stations.old.items }
+    ensures store { CountsOne result
+        (station_failures stations.old.items) (station_failures stations.new.items) }
 {
     let Ok(place) = place_of(party, stations) else {
         return Ok((None, true));
@@ -177,6 +187,8 @@ fn audit_at<R: Records>(
     ensures refused { IfErr result (λ r. IsMissed r × (is_some
         (station_among (states_of stations.old.items) key.now.sender) ≡ true)) }
     ensures len { length stations.new.items ≡ length stations.old.items }
+    ensures store { CountsOne result
+        (station_failures stations.old.items) (station_failures stations.new.items) }
 {
     let Some((set, fate)) = held_by_sender(alloc, stations, key)? else {
         return Ok(None);
@@ -205,6 +217,7 @@ impl<R: Records, H: HubRecords> World<R, H> {
             option_map audit_view o ≡ audit x12 self.old.world (key_view key.now)) }
         ensures refused { IfErr result (λ r. IsMissed r
             × (is_some (station_named self.old.world key.now.sender) ≡ true)) }
+        ensures store { CountsOne result self.old.failures self.new.failures }
     {
         // law: what holds of each world that a network can reach
         crate::x12::reached();

@@ -3,6 +3,7 @@
 ghost use Rattle.std.specs.Prelude.{◌≡◌, ◌++◌, All, IsTrue, IfErr, IfOk, OnOk, length, map, option_map, option_to_list};
 ghost use Rattle.x12_acks.specs.Key.{key_view};
 ghost use Rattle.x12_profile.specs.X12.{x12};
+ghost use Rattle.x12_world.specs.Failing.{CountsOne, station_failures};
 ghost use Rattle.x12_world.specs.Asking.{states_of, IsMissed};
 ghost use Rattle.x12_world.specs.Audit.{audit, stations_of};
 ghost use Rattle.x12_world.specs.Auditing.{audit_view, found_under, station_among, IsAuditAmong};
@@ -62,6 +63,8 @@ fn audit_with<R: Records>(
         (states_of stations.old.items) (key_view key.now) (option_map audit_view o)) }
     ensures refused { IfErr result IsMissed }
     ensures len { length stations.new.items ≡ length stations.old.items }
+    ensures store { CountsOne result
+        (station_failures stations.old.items) (station_failures stations.new.items) }
 {
     let Some((set, fate)) = held_by_sender(alloc, stations, key)? else {
         return Ok(None);
@@ -96,6 +99,8 @@ fn push_audit<R: Records>(
         ≡ map audit_view found.old.items ++ option_to_list (audit x12 w (key_view key.now))) }
     ensures refused { IfErr result IsMissed }
     ensures len { length stations.new.items ≡ length stations.old.items }
+    ensures store { CountsOne result
+        (station_failures stations.old.items) (station_failures stations.new.items) }
 {
     match audit_with(alloc, stations, posted, key)? {
         Some(audit) => Ok(found.push(audit)?),
@@ -121,6 +126,8 @@ fn audit_each<R: Records>(
         IfOk result (λ v. map audit_view v.items ≡ audits_under w (map key_view keys.now)) }
     ensures refused { IfErr result IsMissed }
     ensures len { length stations.new.items ≡ length stations.old.items }
+    ensures store { CountsOne result
+        (station_failures stations.old.items) (station_failures stations.new.items) }
 {
     let mut found = Vec::with_capacity(alloc, keys.len())?;
     for key in keys {
@@ -148,6 +155,8 @@ pub fn audit_all<R: Records>(
         IfOk result (λ v. AreAudits w (map audit_view v.items)) }
     ensures refused { IfErr result IsMissed }
     ensures len { length stations.new.items ≡ length stations.old.items }
+    ensures store { CountsOne result
+        (station_failures stations.old.items) (station_failures stations.new.items) }
 {
     // law: what holds of each world that a network can reach
     crate::x12::reached();

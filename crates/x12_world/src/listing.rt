@@ -6,6 +6,7 @@ ghost use Rattle.x12_acks.specs.Key.{key_view};
 ghost use Rattle.x12_inbound.specs.Order.{set_order};
 ghost use Rattle.x12_profile.specs.X12.{x12};
 ghost use Rattle.x12_station.specs.Key.{own_keys};
+ghost use Rattle.x12_world.specs.Failing.{CountsOne, CountsStation, station_failures};
 ghost use Rattle.x12_world.specs.Asking.{IsMissed, states_of};
 ghost use Rattle.x12_world.specs.Audit.{keys_of};
 ghost use Rattle.x12_world.specs.Listing.{keys_under, AreKeysOf, KeysRise};
@@ -46,6 +47,7 @@ fn push_submission<R: Records>(
     ensures keys { IsTrue station.new.answers → OnOk result (map key_view keys.new.items
         ≡ map key_view keys.old.items ++ keys_under station.old.state.items icn) }
     ensures refused { IfErr result IsMissed }
+    ensures store { CountsStation result station.old.failures station.new.failures }
 {
     match station.submission(icn)? {
         Some(bytes) => Ok(push_keys(alloc, keys, &bytes)?),
@@ -67,6 +69,7 @@ fn push_station<R: Records>(
         ≡ map key_view keys.old.items
         ++ flat_map (keys_under station.old.state.items) (numbers_at node submitted.now)) }
     ensures refused { IfErr result IsMissed }
+    ensures store { CountsStation result station.old.failures station.new.failures }
 {
     for submission in submitted {
         if usize::from(submission.node) != node {
@@ -94,6 +97,8 @@ fn gather<R: Records>(
         ≡ flat_map (λ s. own_keys x12 s.items) (states_of stations.old.items)) }
     ensures refused { IfErr result IsMissed }
     ensures len { length stations.new.items ≡ length stations.old.items }
+    ensures store { CountsOne result
+        (station_failures stations.old.items) (station_failures stations.new.items) }
 {
     let mut keys = Vec::new(alloc);
     for place in 0..stations.len() {
@@ -118,6 +123,8 @@ pub(crate) fn keys_among<R: Records>(
         IfOk result (λ v. AreKeysOf (states_of stations.old.items) (map key_view v.items)) }
     ensures refused { IfErr result IsMissed }
     ensures len { length stations.new.items ≡ length stations.old.items }
+    ensures store { CountsOne result
+        (station_failures stations.old.items) (station_failures stations.new.items) }
 {
     let mut keys = gather(alloc, stations, submitted)?;
     keys.sort_unstable_by(|key, other| compare(key, other));
@@ -138,6 +145,7 @@ impl<R: Records, H: HubRecords> World<R, H> {
         ensures rise { IsTrue self.new.answers → IfOk result (λ v.
             KeysRise (map key_view v.items)) }
         ensures refused { IfErr result IsMissed }
+        ensures store { CountsOne result self.old.failures self.new.failures }
     {
         // law: what holds of each world that a network can reach
         crate::x12::reached();

@@ -1,6 +1,7 @@
 //! The audits of a network.
 
 ghost use Rattle.std.specs.Prelude.{◌≡◌, IsTrue, IfErr, IfOk, map};
+ghost use Rattle.x12_world.specs.Failing.{CountsOne};
 ghost use Rattle.x12_world.specs.Asking.{IsMissed};
 ghost use Rattle.x12_world.specs.Auditing.{audit_view};
 ghost use Rattle.x12_world.specs.Audits.{AreAudits};
@@ -23,6 +24,7 @@ impl<R: Records, H: HubRecords> World<R, H> {
         ensures audits { IsTrue self.new.answers →
             IfOk result (λ v. AreAudits self.old.world (map audit_view v.items)) }
         ensures refused { IfErr result IsMissed }
+        ensures store { CountsOne result self.old.failures self.new.failures }
     {
         audit_all(self.alloc, &mut self.stations, &self.submitted)
     }

@@ -5,6 +5,7 @@ ghost use Rattle.std.specs.List.{list_all};
 ghost use Rattle.x12_acks.specs.Key.{is_same_key, key_view};
 ghost use Rattle.x12_acks.specs.declared.key.SetKey.{SetKey};
 ghost use Rattle.x12_inbound.specs.Posting.{posting_view};
+ghost use Rattle.x12_world.specs.Failing.{CountsOne, CountsStation, station_failures};
 ghost use Rattle.x12_world.specs.Asking.{states_of, IsMissed};
 ghost use Rattle.x12_world.specs.Posted.{bytes_under, ArePosted, IsByKey, IsOneMore};
 ghost use Rattle.x12_world.specs.Running.{all_answer};
@@ -70,6 +71,7 @@ fn push_posted<R: Records>(
         OnOk result (IsOneMore station.old.state all.old.items all.new.items) }
     ensures count { OnOk result (length all.new.items ≡ length all.old.items + 1) }
     ensures refused { IfErr result IsMissed }
+    ensures store { CountsStation result station.old.failures station.new.failures }
 {
     let postings = station.postings()?;
     let posted = by_key(alloc, &postings)?;
@@ -90,6 +92,8 @@ pub(crate) fn posted_by_all<R: Records>(
     ensures each { IfOk result (λ v. length v.items ≡ length stations.old.items) }
     ensures refused { IfErr result IsMissed }
     ensures len { length stations.new.items ≡ length stations.old.items }
+    ensures store { CountsOne result
+        (station_failures stations.old.items) (station_failures stations.new.items) }
 {
     let mut all = Vec::new(alloc);
     for place in 0..stations.len() {

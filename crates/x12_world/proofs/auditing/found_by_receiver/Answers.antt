@@ -6,6 +6,7 @@ use Rattle.x12_inbound.specs.Posting.{posting_view}
 use Rattle.x12_world.specs.Asking.{states_of}
 use Rattle.x12_world.specs.Auditing.{posted_bytes}
 use Rattle.x12_acks.specs.Key.{key_view}
+use Rattle.x12_world.proofs.FailingLemmas.{counts_alike, counts_told, failed_among}
 use Rattle.x12_world.proofs.AuditingLemmas.{asked_still, asked_states, among_found, found_there}
 use Rattle.x12_world.proofs.RunningLemmas.{answers_there}
 use Rattle.x12_world.proofs.auditing.found_by_receiver.Goals as goal
@@ -46,3 +47,16 @@ returns-clause-found g c = λ answers.
     (c.in_ok-postings.ensures.postings (answers_there ss c.in-Ok.place c.postings.new.self within answers))
     (c.count_under-count.ensures ∙ ap (λ ps. length (posted_bytes k (map posting_view ps))) c.deref-2.ensures.value)
     (c.are_intact.ensures ∙ ap (λ ps. list_all (bytes_eq bytes) (posted_bytes k (map posting_view ps))) c.deref-3.ensures.value)
+
+pub returns-in_err-postings-clause-store : goal.returns-in_err-postings-clause-store
+returns-in_err-postings-clause-store g c =
+    let ss = c.args.stations.now.items in
+    let within : c.in-Ok.place < length ss = subst (λ rs. c.in-Ok.place < length rs) c.deref.ensures.value c.in-Ok.ensures.there.0 in
+    counts_told c.from_residual.result c.in_err-postings.field-0.0 _ _ c.from_residual.ensures.1
+    (λ is. failed_among ss c.in-Ok.place c.index_mut.result.now c.postings.new.self within c.index_mut.ensures.value (c.in_err-postings.ensures.store.device is))
+
+pub returns-clause-store : goal.returns-clause-store
+returns-clause-store g c =
+    let ss = c.args.stations.now.items in
+    let within : c.in-Ok.place < length ss = subst (λ rs. c.in-Ok.place < length rs) c.deref.ensures.value c.in-Ok.ensures.there.0 in
+    record { ok = counts_alike ss c.in-Ok.place c.index_mut.result.now c.postings.new.self within c.index_mut.ensures.value c.in_ok-postings.ensures.store.ok; refused = tt }

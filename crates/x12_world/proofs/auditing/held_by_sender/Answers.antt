@@ -1,6 +1,7 @@
 -- The station of the key's sender is asked, and stays as it is.
 use Rattle.std.proofs.Common.{◌<◌, length, subst}
 use Rattle.x12_acks.specs.Key.{key_view}
+use Rattle.x12_world.proofs.FailingLemmas.{counts_among}
 use Rattle.x12_world.proofs.AuditingLemmas.{asked_still, asked_states, among_found, held_there, refused_there, there_so}
 use Rattle.x12_world.proofs.RunningLemmas.{answers_there}
 use Rattle.x12_world.proofs.auditing.held_by_sender.Goals as goal
@@ -39,3 +40,9 @@ returns-clause-there g c =
     let within : c.in-Ok.place < length ss = subst (λ rs. c.in-Ok.place < length rs) c.deref.ensures.value c.in-Ok.ensures.there.0 in
     let found = among_found ss c.deref.result.now c.deref.ensures.value c.args.key.now.sender c.in-Ok.place c.index_mut.result.now within c.index_mut.ensures.value c.in-Ok.ensures.there.1 in
     there_so ss c.args.key.now.sender c.index_mut.result.now.state c.held_at.result found
+
+pub returns-clause-store : goal.returns-clause-store
+returns-clause-store g c =
+    let ss = c.args.stations.now.items in
+    let within : c.in-Ok.place < length ss = subst (λ rs. c.in-Ok.place < length rs) c.deref.ensures.value c.in-Ok.ensures.there.0 in
+    counts_among c.held_at.result ss c.in-Ok.place c.index_mut.result.now c.held_at.new.station within c.index_mut.ensures.value c.held_at.ensures.store

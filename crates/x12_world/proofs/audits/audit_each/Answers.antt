@@ -13,6 +13,7 @@ loop-key-preserved g c =
     record {
       never_won_back = λ answers. was.never_won_back (did.never_won_back answers);
       same = λ answers. did.same answers ∙ was.same (did.never_won_back answers);
+      counts = c.in_ok-push_audit.ensures.store.ok ∙ was.counts;
       long = did.len ∙ was.long;
       found = λ w is answers rise posted.
           let before = did.never_won_back answers in

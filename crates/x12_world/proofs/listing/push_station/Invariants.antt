@@ -9,6 +9,7 @@ abbrev pub invariant-loop-submission : goal.invariant-loop-submission
 invariant-loop-submission g l = record {
   never_won_back : IsTrue l.station.answers → IsTrue l.initial.station.answers;
   same : IsTrue l.station.answers → l.station.state ≡ l.initial.station.state;
+  counts : l.station.failures ≡ l.initial.station.failures;
   keys : IsTrue l.station.answers →
       map key_view l.keys.items ++ flat_map (keys_under l.initial.station.state.items) (numbers_at l.node (drop l.submission-index l.submitted))
       ≡ map key_view l.initial.keys.items ++ flat_map (keys_under l.initial.station.state.items) (numbers_at l.node l.submitted);

@@ -6,6 +6,7 @@ use Rattle.x12_world.specs.Asking.{states_of}
 use Rattle.x12_world.specs.Audit.{audit}
 use Rattle.x12_world.specs.Auditing.{audit_view, IsAuditAmong}
 use Rattle.x12_world.specs.Running.{world_of}
+use Rattle.x12_world.proofs.FailingLemmas.{counts_beside}
 use Rattle.x12_world.proofs.ActingLemmas.{stations_answer}
 use Rattle.x12_world.proofs.AskingLemmas.{stations_are}
 use Rattle.std.proofs.lemmas.Result.{IfOk-weaker}
@@ -42,3 +43,8 @@ pub returns-clause-refused : goal.returns-clause-refused
 returns-clause-refused g c =
     let s = c.self.inside in
     rw (← c.self.view_is) (refused_of s.hubs s.stations.items s.held.items c.args.key.now.sender c.audit_at.result c.audit_at.ensures.refused)
+
+pub returns-clause-store : goal.returns-clause-store
+returns-clause-store g c =
+    let s = c.self.inside in
+    rw (← c.self.view_is) (counts_beside c.audit_at.result s.hubs s.stations.items c.audit_at.new.stations.items c.audit_at.ensures.store)

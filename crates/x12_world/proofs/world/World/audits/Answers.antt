@@ -3,6 +3,7 @@ use Rattle.std.proofs.Common.{sym, subst}
 use Rattle.x12_world.specs.Asking.{states_of}
 use Rattle.x12_world.specs.Running.{world_of}
 use Rattle.x12_world.specs.Submission.{AreListed}
+use Rattle.x12_world.proofs.FailingLemmas.{counts_beside}
 use Rattle.x12_world.proofs.ActingLemmas.{stations_answer}
 use Rattle.x12_world.proofs.AskingLemmas.{stations_are}
 use Rattle.x12_world.proofs.WorldAskedLemmas.{is_same, kept_so, was_so}
@@ -32,3 +33,8 @@ returns-clause-audits g c = λ answers.
     rw (← c.self.view_is)
     (c.audit_all.ensures.audits (world_of s.hubs ss s.held.items) (record { reached = (c.self.invariant.reached was); stations = stations_are ss; listed = listed })
     (stations_answer s.hubs c.audit_all.new.stations.items answers))
+
+pub returns-clause-store : goal.returns-clause-store
+returns-clause-store g c =
+    let s = c.self.inside in
+    rw (← c.self.view_is) (counts_beside c.audit_all.result s.hubs s.stations.items c.audit_all.new.stations.items c.audit_all.ensures.store)

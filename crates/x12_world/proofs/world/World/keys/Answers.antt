@@ -9,6 +9,7 @@ use Rattle.x12_world.specs.Audit.{keys_of}
 use Rattle.x12_world.specs.Listing.{keys_of_stations, AreKeysOf, KeysRise}
 use Rattle.x12_world.specs.Running.{world_of}
 use Rattle.x12_world.specs.Submission.{AreListed}
+use Rattle.x12_world.proofs.FailingLemmas.{counts_beside}
 use Rattle.x12_world.proofs.ActingLemmas.{stations_answer}
 use Rattle.x12_world.proofs.AskingLemmas.{stations_are}
 use Rattle.x12_world.proofs.WorldAskedLemmas.{is_same, kept_so, rise_so, was_so}
@@ -53,3 +54,8 @@ returns-clause-rise g c = λ answers.
     let once = subst (AllPairs (λ j k. j ≢ k)) (ap keys_of_stations (stations_are ss)) (c.reached.ensures.reached.facts w (c.self.invariant.reached was)).keys.once in
     IfOk-weaker c.keys_among.result (λ v. AreKeysOf (states_of ss) (map key_view v.items)) (λ v. KeysRise (map key_view v.items)) (λ v are. are.rise once)
     (c.keys_among.ensures.keys (stations_answer s.hubs c.keys_among.new.stations.items answers) listed rise)
+
+pub returns-clause-store : goal.returns-clause-store
+returns-clause-store g c =
+    let s = c.self.inside in
+    rw (← c.self.view_is) (counts_beside c.keys_among.result s.hubs s.stations.items c.keys_among.new.stations.items c.keys_among.ensures.store)
