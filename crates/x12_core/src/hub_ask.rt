@@ -3,7 +3,7 @@
 ghost use Rattle.std.specs.Prelude.{◌≡◌, [], ◌∷◌, IsTrue, IfOk, IfErr, OnErr, Some};
 ghost use Rattle.x12_hub.specs.Record.{decision_view};
 ghost use Rattle.x12_core.specs.Effect.{refusals, reports_taken};
-ghost use Rattle.x12_core.specs.Fault.{WasCounted};
+ghost use Rattle.x12_core.specs.Fault.{CountsCore};
 ghost use Rattle.x12_core.specs.HubAsk.{hub_effect, IsHubRefusal, brought};
 ghost use Rattle.x12_core.specs.Sends.{sends_view};
 ghost use Rattle.x12_core.specs.Packet.{Refusal};
@@ -87,7 +87,7 @@ pub fn ask_hub<H: HubRecords>(
     ensures refused { IsTrue hub.new.answers →
         IfErr result (IsHubRefusal hub.old.hub (brought ask.now)) }
     ensures unchanged { IsTrue hub.new.answers → OnErr result (hub.new.hub ≡ hub.old.hub) }
-    ensures store { IfErr result (λ f. WasCounted f hub.old.failures hub.new.failures) }
+    ensures store { CountsCore result hub.old.failures hub.new.failures }
 {
     match ask {
         HubAsk::Deposit(from, bytes, at) => {

@@ -4,7 +4,7 @@ ghost use Rattle.std.specs.Prelude.{◌≡◌, ◌≤◌, ℕ, IsTrue, IfErr, If
 ghost use Rattle.x12_core.specs.declared.packet.Site.{Site};
 ghost use Rattle.x12_core.specs.Ask.{does_at};
 ghost use Rattle.x12_core.specs.Core.{core_answers, core_failures, node_of, Did, IsCoreRefusal};
-ghost use Rattle.x12_core.specs.Fault.{WasCounted};
+ghost use Rattle.x12_core.specs.Fault.{CountsCore};
 ghost use Rattle.x12_core.specs.Effect.{Effect};
 ghost use Rattle.x12_core.specs.Node.{IsHub, IsStation};
 ghost use Rattle.x12_core.specs.View.{ask_view};
@@ -50,7 +50,7 @@ fn tell<R: Records>(station: &mut Station<R>, ask: &Ask, key: &SetKey) -> Result
         IsCoreRefusal node (ask_view ask.now) (IsStation station.old.state) f) }
     ensures unchanged { IsTrue station.new.answers →
         station.new.state ≡ station.old.state }
-    ensures store { IfErr result (λ f. WasCounted f station.old.failures station.new.failures) }
+    ensures store { CountsCore result station.old.failures station.new.failures }
 {
     Ok(Answer::Fate(station.fate(key)?))
 }
@@ -69,7 +69,7 @@ fn apply_to_station<R: Records>(
         (IsCoreRefusal site.node (ask_view ask.now) (IsStation station.old.state)) }
     ensures unchanged { IsTrue station.new.answers →
         OnErr result (station.new.state ≡ station.old.state) }
-    ensures store { IfErr result (λ f. WasCounted f station.old.failures station.new.failures) }
+    ensures store { CountsCore result station.old.failures station.new.failures }
 {
     if let Ask::Fate { key } = ask {
         return tell(station, ask, key);
@@ -88,7 +88,7 @@ fn apply_to_hub<H: HubRecords>(hub: &mut Hub<H>, site: Site, ask: &Ask) -> Resul
     ensures refused { IsTrue hub.new.answers →
         IfErr result (IsCoreRefusal site.node (ask_view ask.now) (IsHub hub.old.hub)) }
     ensures unchanged { IsTrue hub.new.answers → OnErr result (hub.new.hub ≡ hub.old.hub) }
-    ensures store { IfErr result (λ f. WasCounted f hub.old.failures hub.new.failures) }
+    ensures store { CountsCore result hub.old.failures hub.new.failures }
 {
     match of_hub(site.node, ask) {
         Some(asked) => Ok(Answer::Sent(ask_hub(hub, site.node, &asked)?)),
@@ -109,8 +109,7 @@ impl<R: Records, H: HubRecords> Core<R, H> {
             IfErr result (IsCoreRefusal site.node (ask_view ask.now) (node_of self.old)) }
         ensures unchanged { IsTrue (core_answers self.new) →
             OnErr result (node_of self.new ≡ node_of self.old) }
-        ensures store { IfErr result (λ f.
-            WasCounted f (core_failures self.old) (core_failures self.new)) }
+        ensures store { CountsCore result (core_failures self.old) (core_failures self.new) }
     {
         match self {
             Core::Station(station) => apply_to_station(alloc, station, site, ask),

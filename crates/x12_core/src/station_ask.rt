@@ -6,7 +6,7 @@ ghost use Rattle.x12_inbound.specs.Filing.{reply_bytes};
 ghost use Rattle.x12_judge.specs.Agreement.{agreement_view};
 ghost use Rattle.x12_core.specs.StationAsk.{ask_effect, ask_row, IsAskRefusal};
 ghost use Rattle.x12_core.specs.Effect.{deposits, reports_taken};
-ghost use Rattle.x12_core.specs.Fault.{WasCounted};
+ghost use Rattle.x12_core.specs.Fault.{CountsCore};
 ghost use Rattle.x12_core.specs.Sends.{sends_view};
 ghost use Rattle.x12_core.specs.Submission.{listed, SubmitsMore};
 ghost use Rattle.x12_core.specs.Node.{IsStation};
@@ -98,7 +98,7 @@ pub fn ask_station<R: Records>(
         IfErr result (IsAskRefusal (ask_row ask.now station.old.state)) }
     ensures unchanged { IsTrue station.new.answers →
         OnErr result (station.new.state ≡ station.old.state) }
-    ensures store { IfErr result (λ f. WasCounted f station.old.failures station.new.failures) }
+    ensures store { CountsCore result station.old.failures station.new.failures }
 {
     match ask {
         StationAsk::Orders(to, at, orders) => {

@@ -1,6 +1,6 @@
 -- A fault of a node's records was counted at that node alone.
 use Rattle.std.specs.Prelude.{◌≡◌, ℕ, zero, suc, ◌-◌, ◌≤◌, ◌<◌, List, [], ◌∷◌, ◌++◌, Some, refl, length, set, slice_get, get_or, Result, Ok, Err, IfErr}
-use mathlib.Core.Path.{sym, ap, subst, ◌∙◌}
+use mathlib.Core.Path.{sym, ap, ap₂, subst, ◌∙◌}
 use native.Mathlib.Omega.{arith}
 use Rattle.std.specs.Result.{IsErrAnd}
 use Rattle.std.proofs.lemmas.List.{map-set}
@@ -11,13 +11,13 @@ use Rattle.x12_station.specs.Seen.{StationView}
 use Rattle.x12_core.specs.declared.fault.CoreFault.{CoreFault}
 use Rattle.x12_core.specs.declared.fault.CoreFault.TheVariants as code
 use Rattle.x12_core.specs.declared.fault.NodeFault.TheVariants.{OfStation, OfHub}
-use Rattle.x12_core.specs.Fault.{WasCounted}
+use Rattle.x12_core.specs.Fault.{CountsCore, WasCounted}
 use Rattle.x12_station.specs.declared.fault.StationFault.{StationFault}
 use Rattle.x12_station.specs.declared.fault.StationFault.TheVariants as station
 use Rattle.x12_world.specs.declared.refused.Refused.{Refused}
 use Rattle.x12_world.specs.declared.refused.Refused.TheVariants as refused
 use Rattle.x12_world.specs.declared.hubs.Hubs.{Hubs as CodeHubs}
-use Rattle.x12_world.specs.Failing.{CountsOne, CountsStation, OneFailed, SaysFailed, SaysOneFailed, failures_beside, failures_of, station_failures}
+use Rattle.x12_world.specs.Failing.{CountsAsked, CountsOne, CountsStation, OneFailed, SaysFailed, SaysOneFailed, failures_beside, failures_of, station_failures}
 use Rattle.x12_world.specs.Running.{second_failures}
 use Rattle.x12_world.specs.RefusedNumber.{refused_by_core}
 use Rattle.x12_world.proofs.NetworkLemmas.{get_left}
@@ -172,6 +172,39 @@ said_so (code.Node (OfStation fault)) before after old new was failed = λ is. f
 said_so (code.Node (OfHub fault)) before after old new was failed = λ is. failed (was is)
 said_so code.Memory before after old new was failed = tt
 said_so code.WrongKind before after old new was failed = tt
+
+-- a core of one of these stations was asked
+pub asked_among : {A R : Type 0} (r : Result A CoreFault) (ss : List (StationView R)) (i : ℕ) (old new : StationView R) → i < length ss → old ≡ get_or ss i old
+    → CountsCore r old.failures new.failures → CountsAsked r (station_failures ss) (station_failures (set ss i new))
+asked_among (Ok a) ss i old new within is counts = record { ok = counts_alike ss i old new within is counts.ok; refused = tt }
+asked_among (Err f) ss i old new within is counts = record { ok = tt; refused = said_so f old.failures new.failures _ _ counts.refused (failed_among ss i old new within is) }
+
+-- the first hub's core, and the second hub's
+pub asked_first : {A H : Type 0} (r : Result A CoreFault) (old new : CodeHubs H) (fs : List ℕ) → new.second ≡ old.second
+    → CountsCore r old.first.failures new.first.failures → CountsAsked r (failures_beside old fs) (failures_beside new fs)
+asked_first (Ok a) old new fs same counts = record { ok = ap₂ (λ n s. (n ∷ fs) ++ second_failures s) counts.ok same; refused = tt }
+asked_first (Err f) old new fs same counts = record { ok = tt; refused = said_so f old.first.failures new.first.failures _ _ counts.refused (first_failed old new fs same) }
+
+pub asked_second : {A H : Type 0} (r : Result A CoreFault) (old new : CodeHubs H) (fs : List ℕ) (k g : HubView H) → old.second ≡ Some k → new.second ≡ Some g → new.first ≡ old.first
+    → CountsCore r k.failures g.failures → CountsAsked r (failures_beside old fs) (failures_beside new fs)
+asked_second (Ok a) old new fs k g was is first counts = record {
+  ok =
+      ap₂ (λ (z : HubView _) s. (z.failures ∷ fs) ++ second_failures s) first is
+      ∙ ap (λ n. (old.first.failures ∷ fs) ++ n ∷ []) counts.ok
+      ∙ ap (λ s. (old.first.failures ∷ fs) ++ second_failures s) (sym was);
+  refused = tt;
+}
+asked_second (Err f) old new fs k g was is first counts = record { ok = tt; refused = said_so f k.failures g.failures _ _ counts.refused (second_failed old new fs k g was is first) }
+
+-- what a core refused, as the network hands it on
+pub asked_handed : {A B : Type 0} (r : Result A Refused) (f : CoreFault) (old new : List ℕ) → IsErrAnd r (λ e. e ≡ refused_by_core f) → CountsAsked {A = B} (Err f) old new → CountsOne r old new
+asked_handed (Ok a) f old new is counts = absurd is
+asked_handed (Err e) f old new is counts = record { ok = tt; refused = subst (λ (g : Refused). SaysOneFailed g old new) (sym is) counts.refused }
+
+-- the stations beside the hubs, which weren't asked
+pub asked_beside : {A H R : Type 0} (r : Result A CoreFault) (h : CodeHubs H) (old new : List (StationView R)) → CountsAsked r (station_failures old) (station_failures new) → CountsAsked r (failures_of h old) (failures_of h new)
+asked_beside (Ok a) h old new counts = record { ok = ap (failures_beside h) counts.ok; refused = tt }
+asked_beside (Err f) h old new counts = record { ok = tt; refused = says_beside (refused_by_core f) h.first.failures (station_failures old) (station_failures new) (second_failures h.second) counts.refused }
 
 -- a fault that a station gave, as the network says it
 pub station_told : {A : Type 0} (r : Result A Refused) (fault : StationFault) (old new : List ℕ) → IsErrAnd r (λ e. e ≡ refused.Node (OfStation fault)) → (fault ≡ station.Store → OneFailed old new) → IfErr r (λ e. SaysOneFailed e old new)

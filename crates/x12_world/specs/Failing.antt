@@ -8,6 +8,8 @@ use Rattle.x12_core.specs.declared.fault.NodeFault.TheVariants.{OfStation, OfHub
 use Rattle.x12_world.specs.declared.hubs.Hubs.{Hubs as CodeHubs}
 use Rattle.x12_world.specs.declared.refused.Refused.{Refused}
 use Rattle.x12_world.specs.declared.refused.Refused.TheVariants as code
+use Rattle.x12_core.specs.declared.fault.CoreFault.{CoreFault}
+use Rattle.x12_world.specs.RefusedNumber.{refused_by_core}
 use Rattle.x12_world.specs.Running.{second_failures}
 
 -- how often the records of each station failed
@@ -61,3 +63,8 @@ pub record CountsStation {A : Type 0} (r : Result A Refused) (old new : ℕ) : T
 pub record CountsOne {A : Type 0} (r : Result A Refused) (old new : List ℕ) : Type 0 where
   pub ok : OnOk r (new ≡ old)
   pub refused : IfErr r (λ e. SaysOneFailed e old new)
+
+-- How a call of a core of one of the nodes counts.
+pub record CountsAsked {A : Type 0} (r : Result A CoreFault) (old new : List ℕ) : Type 0 where
+  pub ok : OnOk r (new ≡ old)
+  pub refused : IfErr r (λ f. SaysOneFailed (refused_by_core f) old new)

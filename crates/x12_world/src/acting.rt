@@ -5,7 +5,7 @@ ghost use Rattle.x12_profile.specs.X12.{x12};
 ghost use Rattle.x12_world.specs.Asking.{states_of};
 ghost use Rattle.x12_world.specs.EventRefusal.{network_refusal};
 ghost use Rattle.x12_world.specs.EventView.{event_view};
-ghost use Rattle.x12_world.specs.Failing.{failures_of, SaysOneFailed};
+ghost use Rattle.x12_world.specs.Failing.{failures_of, CountsOne};
 ghost use Rattle.x12_world.specs.Refusing.{IsNetworkRefusal};
 ghost use Rattle.x12_world.specs.Running.{hubs_in, nodes_answer, nodes_of, world_of};
 ghost use Rattle.x12_core.specs.Sends.{sends_view};
@@ -48,8 +48,8 @@ pub(crate) fn act<R: Records, H: HubRecords>(
         (world_of hubs.old stations.old.items held.now.items) (event_view event.now)) }
     ensures unchanged { IsTrue (nodes_answer hubs.new stations.new.items) → OnErr result
         (nodes_of (hubs_in hubs.new) stations.new.items ≡ nodes_of (hubs_in hubs.old) stations.old.items) }
-    ensures store { IfErr result (λ r. SaysOneFailed r
-        (failures_of hubs.old stations.old.items) (failures_of hubs.new stations.new.items)) }
+    ensures store { CountsOne result
+        (failures_of hubs.old stations.old.items) (failures_of hubs.new stations.new.items) }
     ensures len { length stations.new.items ≡ length stations.old.items }
 {
     match whose(hubs, held, event) {

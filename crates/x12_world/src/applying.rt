@@ -4,7 +4,7 @@ ghost use Rattle.std.specs.Prelude.{◌≡◌, ◌+◌, ◌<◌, ◌≤◌, ◌+
 ghost use Rattle.std.specs.Prelude.{vec_len, vec_capacity, if◌then◌else◌};
 ghost use Rattle.x12_world.specs.Asking.{states_of};
 ghost use Rattle.x12_world.specs.EventView.{event_view};
-ghost use Rattle.x12_world.specs.Failing.{failures_of, SaysOneFailed};
+ghost use Rattle.x12_world.specs.Failing.{failures_of, CountsOne};
 ghost use Rattle.x12_world.specs.Outcome.{told_packet};
 ghost use Rattle.x12_world.specs.Packet.{named};
 ghost use Rattle.x12_world.specs.Ran.{Ran, outcome_view};
@@ -101,8 +101,8 @@ pub(crate) fn take<R: Records, H: HubRecords>(
     ensures listed { IsTrue (nodes_answer hubs.new stations.new.items) →
         AreListed (states_of stations.old.items) submitted.old.items →
         AreListed (states_of stations.new.items) submitted.new.items }
-    ensures store { IfErr result (λ r. SaysOneFailed r
-        (failures_of hubs.old stations.old.items) (failures_of hubs.new stations.new.items)) }
+    ensures store { CountsOne result
+        (failures_of hubs.old stations.old.items) (failures_of hubs.new stations.new.items) }
     ensures len { length stations.new.items ≡ length stations.old.items }
 {
     let number = admit(hubs, stations, held, event)?;

@@ -5,9 +5,8 @@ ghost use Rattle.x12_core.specs.Node.{Node};
 ghost use Rattle.x12_core.specs.Sends.{sends_view};
 ghost use Rattle.x12_core.specs.Submission.{listed};
 ghost use Rattle.x12_world.specs.Asks.{IsAskedOfHub, IsAskedOfHubInVain};
-ghost use Rattle.x12_world.specs.Failing.{SaysOneFailed, failures_beside};
+ghost use Rattle.x12_world.specs.Failing.{CountsAsked, failures_beside};
 ghost use Rattle.x12_world.specs.Nodes.{is_hub_number};
-ghost use Rattle.x12_world.specs.RefusedNumber.{refused_by_core};
 ghost use Rattle.x12_world.specs.Running.{beside, hubs_answer, hubs_in};
 
 use crate::hubs::Hubs;
@@ -30,8 +29,8 @@ pub(crate) fn at_hub<H: HubRecords>(
         IsAskedOfHubInVain ask.now node (beside (hubs_in hubs.old) ns) f) }
     ensures unchanged { IsTrue (hubs_answer hubs.new) →
         OnErr result (hubs_in hubs.new ≡ hubs_in hubs.old) }
-    ensures store { IfErr result (λ f. (fs : List ℕ) → SaysOneFailed (refused_by_core f)
-        (failures_beside hubs.old fs) (failures_beside hubs.new fs)) }
+    ensures store { (fs : List ℕ) → CountsAsked result
+        (failures_beside hubs.old fs) (failures_beside hubs.new fs) }
 {
     if node == HUB_NODE {
         return ask_hub(&mut hubs.first, node, ask);

@@ -3,8 +3,7 @@
 ghost use Rattle.std.specs.Prelude.{◌≡◌, ◌≤◌, ◌∷◌, ◌++◌, ℕ, List, IsTrue, IfOk, IfErr, OnErr, length, vec_len};
 ghost use Rattle.x12_world.specs.Asking.{states_of};
 ghost use Rattle.x12_world.specs.Asks.{IsAsked, IsAskedInVain};
-ghost use Rattle.x12_world.specs.Failing.{station_failures, SaysOneFailed};
-ghost use Rattle.x12_world.specs.RefusedNumber.{refused_by_core};
+ghost use Rattle.x12_world.specs.Failing.{station_failures, CountsAsked};
 ghost use Rattle.x12_world.specs.Running.{HasNumbers, Hubs, all_answer, nodes_of, station_nodes};
 ghost use Rattle.x12_core.specs.Sends.{sends_view};
 ghost use Rattle.x12_core.specs.Submission.{listed};
@@ -34,9 +33,8 @@ pub(crate) fn at_station<R: Records>(
         IsAskedInVain ask.now site.node (nodes_of h stations.old.items) r) }
     ensures unchanged { IsTrue (all_answer stations.new.items) →
         OnErr result (station_nodes stations.new.items ≡ station_nodes stations.old.items) }
-    ensures store { IfErr result (λ f. (h : ℕ) (more : List ℕ) → SaysOneFailed (refused_by_core f)
-        ((h ∷ station_failures stations.old.items) ++ more)
-        ((h ∷ station_failures stations.new.items) ++ more)) }
+    ensures store { CountsAsked result
+        (station_failures stations.old.items) (station_failures stations.new.items) }
     ensures len { length stations.new.items ≡ length stations.old.items }
 {
     let station = &mut stations[site.node as usize - 1];

@@ -1,7 +1,8 @@
 //! Runs of a network.
 
-ghost use Rattle.std.specs.Prelude.{IsTrue, IfOk, IfErr, List, map};
+ghost use Rattle.std.specs.Prelude.{◌≡◌, IsTrue, IfOk, IfErr, OnOk, List, map};
 ghost use Rattle.x12_profile.specs.X12.{x12};
+ghost use Rattle.x12_world.specs.Failing.{SaysOneFailed};
 ghost use Rattle.x12_world.specs.EventView.{event_view};
 ghost use Rattle.x12_world.specs.Headline.{Headline};
 ghost use Rattle.x12_world.specs.Loss.{Happening, run_so};
@@ -31,6 +32,9 @@ impl<R: Records, H: HubRecords> World<R, H> {
             (map event_view events.now) (map outcome_view os.items) self.new.world) }
         ensures stopped { IsTrue self.new.answers → IfErr result (λ e.
             StoppedAt self.old.world (map event_view events.now) e.0 e.1 self.new.world) }
+        // an Ok leaves each count as it was; what stopped it says of no store that it failed without cause
+        ensures store { OnOk result (self.new.failures ≡ self.old.failures)
+            × IfErr result (λ e. SaysOneFailed e.1 self.old.failures self.new.failures) }
         // from the world before to the one after, and from this one to each later one; what follows is
         // of both
         ensures headline { IsTrue self.new.answers → Headline x12 self.old.world self.new.world

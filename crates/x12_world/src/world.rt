@@ -4,7 +4,7 @@ ghost use Rattle.std.specs.Prelude.{◌≡◌, List, ℕ, IsTrue, IfOk, IfErr, O
 ghost use Rattle.std.specs.Option.{option_copied};
 ghost use Rattle.x12_profile.specs.X12.{x12};
 ghost use Rattle.x12_world.specs.EventView.{event_view};
-ghost use Rattle.x12_world.specs.Failing.{SaysOneFailed};
+ghost use Rattle.x12_world.specs.Failing.{CountsOne};
 ghost use Rattle.x12_world.specs.Packet.{packet_of};
 ghost use Rattle.x12_world.specs.Ran.{Ran, outcome_view};
 ghost use Rattle.x12_world.specs.Reach.{IsReachable};
@@ -68,7 +68,7 @@ impl<R: Records, H: HubRecords> World<R, H> {
             IfErr result (IsNetworkRefusal self.old.world (event_view event.now)) }
         ensures unchanged { IsTrue self.new.answers →
             OnErr result (self.new.world ≡ self.old.world) }
-        ensures store { IfErr result (λ r. SaysOneFailed r self.old.failures self.new.failures) }
+        ensures store { CountsOne result self.old.failures self.new.failures }
     {
         // law: what holds of each world that a network can reach
         crate::x12::reached();

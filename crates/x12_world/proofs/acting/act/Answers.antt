@@ -9,6 +9,7 @@ use Rattle.x12_world.specs.Refusing.{IsNetworkRefusal}
 use Rattle.x12_world.specs.Running.{hubs_in, nodes_of, station_nodes, world_of}
 use Rattle.x12_world.specs.Target.{IsTarget}
 use Rattle.x12_world.proofs.ActingLemmas.{hub_took, hub_refused, hubs_answered, station_took, station_refused, stations_answer, told_so}
+use Rattle.x12_world.proofs.FailingLemmas.{asked_beside, asked_handed}
 use Rattle.x12_world.proofs.RunningLemmas.{few_numbers, hub_test, kinds_in, second_kept, station_number}
 use Rattle.x12_world.proofs.acting.act.Goals as goal
 
@@ -94,3 +95,8 @@ at_station-requires g c =
     let number = station_number (hubs_in hubs) ss c.in-Some-Station.node numbers f.there in
     let is = c.site.ensures.node in
     record { there = (let low = number.0 in omega arith, let n = c.args.stations.now.ok.0 in let high = number.1 in omega arith) }
+
+pub returns-in_err-at_station-in-Some-Station-clause-store : goal.returns-in_err-at_station-in-Some-Station-clause-store
+returns-in_err-at_station-in-Some-Station-clause-store g c =
+    asked_handed c.from_residual-in_err-at_station-in-Some-Station.result c.in_err-at_station-in-Some-Station.field-0.0 _ _ c.from_residual-in_err-at_station-in-Some-Station.ensures.1
+    (asked_beside _ c.args.hubs.now c.args.stations.now.items c.at_station.new.stations.items c.in_err-at_station-in-Some-Station.ensures.store)

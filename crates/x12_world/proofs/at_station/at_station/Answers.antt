@@ -2,7 +2,7 @@
 use Rattle.std.proofs.Common.{◌≡◌, ℕ, List, ◌-◌, ◌+◌, ◌<◌, ◌≤◌, length, subst, arith, IsTrue}
 use Rattle.x12_world.specs.Running.{HasNumbers, Hubs}
 use Rattle.x12_core.specs.Sends.{sends_view}
-use Rattle.x12_world.proofs.FailingLemmas.{one_of_more, said_so, station_failed}
+use Rattle.x12_world.proofs.FailingLemmas.{asked_among}
 use Rattle.x12_world.proofs.RunningLemmas.{asked, asked_in_vain, answers_there, answered_before, stations_kept, if_err, on_err}
 use Rattle.std.proofs.lemmas.Result.{IfOk-weaker}
 use Rattle.x12_core.specs.Submission.{listed}
@@ -64,9 +64,5 @@ returns-clause-submits g c = λ answers.
 pub returns-clause-store : goal.returns-clause-store
 returns-clause-store g c =
     let ss = c.args.stations.now in
-    let old = c.index_mut-station.result.now in
-    let new = c.ask_station.new.station in
-    let low = c.requires.there.0 in
-    let high : c.args.site.node ≤ length ss.items = let e = ss.ok.0 in let up = c.requires.there.1 in omega arith in
-    if_err c.ask_station.result _ _ (λ f was (h : ℕ) (more : List ℕ). said_so f old.failures new.failures _ _ was (λ rose. one_of_more _ _ more (station_failed h ss.items c.args.site.node old new low high c.index_mut-station.ensures.value rose)))
-    c.ask_station.ensures.store
+    let within : c.args.site.node - 1 < length ss.items = let e = ss.ok.0 in let low = c.requires.there.0 in let high = c.requires.there.1 in omega arith in
+    asked_among c.ask_station.result ss.items (c.args.site.node - 1) c.index_mut-station.result.now c.ask_station.new.station within c.index_mut-station.ensures.value c.ask_station.ensures.store

@@ -78,6 +78,7 @@ loop-event-preserved g c =
           subst (λ (xs : List EventOutcome). EachRan w (take (place + 1) es) xs new) (sym told)
           (subst (λ (xs : List Event). EachRan w xs (map outcome_view os ++ outcome_view outcome ∷ []) new) (sym (one_taken event_view events place item lt is))
           (each_more w mid new (take place es) (map outcome_view os) (event_view item) (outcome_view outcome) (at.invariant.each (c.in-Ok-apply.ensures.never_won_back answers)) (c.in-Ok-apply.ensures.ran answers)));
+      counts = c.in-Ok-apply.ensures.store.ok ∙ at.invariant.counts;
       place = ap (λ n. n + 1) at.invariant.place;
       count = let a = at.invariant.count in let b = c.push_reserved.ensures.len in omega arith;
       room = let a = at.invariant.room in let b = c.push_reserved.ensures.capacity in omega arith;

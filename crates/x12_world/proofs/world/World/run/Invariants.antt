@@ -9,6 +9,7 @@ abbrev pub invariant-loop-event : goal.invariant-loop-event
 invariant-loop-event g l = record {
   never_won_back : IsTrue l.self.answers → IsTrue l.fn.self.answers;
   each : IsTrue l.self.answers → EachRan l.fn.self.world (take l.place (map event_view l.events)) (map outcome_view l.outcomes.items) l.self.world;
+  counts : l.self.failures ≡ l.fn.self.failures;
   place : l.place ≡ l.event-index;
   count : vec_len l.outcomes ≡ l.place;
   room : length l.events ≤ vec_capacity l.outcomes;
