@@ -1,5 +1,5 @@
 -- What a station does at what it is asked, and what its table says of it.
-use Rattle.std.specs.Prelude.{ℕ, [], ◌∷◌, map, Option, Some, None}
+use Rattle.std.specs.Prelude.{[], ◌∷◌, map, Option, Some, None}
 use Rattle.x12_core.specs.declared.fault.CoreFault.{CoreFault}
 use Rattle.x12_core.specs.declared.fault.CoreFault.TheVariants as code
 use Rattle.x12_core.specs.declared.fault.NodeFault.TheVariants.{OfStation, OfHub}

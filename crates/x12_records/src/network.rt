@@ -1,7 +1,8 @@
 //! A network whose nodes keep their records in SQLite tables.
 
-ghost use Rattle.std.specs.Prelude.{IsTrue, IfOk, IfErr, List, map};
+ghost use Rattle.std.specs.Prelude.{◌≡◌, IsTrue, IfOk, IfErr, OnOk, List, map};
 ghost use Rattle.x12_profile.specs.X12.{x12};
+ghost use Rattle.x12_world.specs.Failing.{SaysOneFailed};
 ghost use Rattle.x12_world.specs.EventView.{event_view};
 ghost use Rattle.x12_world.specs.Headline.{Headline};
 ghost use Rattle.x12_world.specs.Loss.{Happening, run_so};
@@ -35,6 +36,8 @@ pub fn run<S: Alter, T: Alter>(
         (map event_view events.now) (map outcome_view os.items) network.new.world) }
     ensures stopped { IsTrue network.new.answers → IfErr result (λ e.
         StoppedAt network.old.world (map event_view events.now) e.0 e.1 network.new.world) }
+    ensures store { OnOk result (network.new.failures ≡ network.old.failures)
+        × IfErr result (λ e. SaysOneFailed e.1 network.old.failures network.new.failures) }
     ensures headline { IsTrue network.new.answers →
         Headline x12 network.old.world network.new.world
         × ((more : List Happening) →

@@ -8,7 +8,7 @@ use Rattle.x12_outbound.proofs.SearchLemmas.{Found}
 use Rattle.x12_station.specs.declared.arrivals.NumberedArrival.{NumberedArrival}
 use Rattle.x12_profile.specs.Edition.{edition_at}
 use Rattle.x12_station.specs.Durable.{item_of_arrival}
-use Rattle.x12_station.specs.History.{Item, Submitted, Came}
+use Rattle.x12_station.specs.History.{Submitted, Came}
 use Rattle.x12_station.specs.Memory.{ArrivalKey, NumberedRow, SeqsRise, arrival_view}
 use Rattle.x12_station.specs.Stored.{Stored, StoredSubmission, StoredArrival, AreNumbered}
 use Rattle.x12_numbers.proofs.Shelf.{pairs_from_map}

@@ -12,12 +12,12 @@ use Rattle.x12_inbound.proofs.OrderLemmas.{interchange_itself}
 use Rattle.x12_inbound.specs.Filing.{FiledInterchange, filed_key}
 use Rattle.x12_inbound.specs.Order.{interchange, is_same_interchange}
 use Rattle.x12_inbound.specs.Register.{is_under}
-use Rattle.x12_numbers.proofs.Shelf.{all_from_contains, contains_cons, contains_head, contains_mapped, contains_tail, found_passes, map_twice, none_in_nil}
+use Rattle.x12_numbers.proofs.Shelf.{all_from_contains, contains_cons, contains_head, contains_mapped, found_passes, map_twice, none_in_nil}
 use Rattle.x12_outbound.specs.Entry.{InterchangeRow}
 use Rattle.x12_profile.specs.Edition.{edition_at}
 use Rattle.x12_profile.specs.X12.{x12}
 use Rattle.x12_station.specs.Durable.{IsFiledRightly, IsAnsweredRightly, IsHistoryOf, IsOwnSubmission, WasAnswered, fared_entries, items_of}
-use Rattle.x12_station.specs.History.{HasCame, Item, Submitted, Came, KeptArrival, arrivals, postings, submissions}
+use Rattle.x12_station.specs.History.{HasCame, Item, Submitted, Came, KeptArrival, postings, submissions}
 use Rattle.x12_station.specs.Stored.{AreNumbered, IsSound, Stored, StoredArrival, entries, entry_of_row, origin_of}
 use Rattle.x12_station.proofs.EntryLemmas.{entries_rise}
 use Rattle.x12_station.proofs.HistoryLemmas.{came_later, in_submissions}

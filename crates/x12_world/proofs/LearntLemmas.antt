@@ -1,5 +1,5 @@
 -- Each fate of a set addressed to a node was learnt from its receiver's kept reply, or from a hub's kept refusal.
-use Rattle.std.specs.Prelude.{◌≡◌, ℕ, List, [], Bool, true, false, Option, Some, None, Contains, refl, ◌⊎◌, IsTrue, option_map}
+use Rattle.std.specs.Prelude.{◌≡◌, ℕ, List, [], true, false, Option, Some, None, Contains, refl, ◌⊎◌, IsTrue, option_map}
 use mathlib.Core.Path.{sym, ap, subst, ◌∙◌}
 use mathlib.Core.Logic.{inl, inr}
 use Rattle.x12_envelopes.specs.declared.party.Party.{Party}

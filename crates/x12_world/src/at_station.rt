@@ -1,6 +1,6 @@
 //! An event at a station of a network.
 
-ghost use Rattle.std.specs.Prelude.{◌≡◌, ◌≤◌, ◌∷◌, ◌++◌, ℕ, List, IsTrue, IfOk, IfErr, OnErr, length, vec_len};
+ghost use Rattle.std.specs.Prelude.{◌≡◌, ◌≤◌, IsTrue, IfOk, IfErr, OnErr, length, vec_len};
 ghost use Rattle.x12_world.specs.Asking.{states_of};
 ghost use Rattle.x12_world.specs.Asks.{IsAsked, IsAskedInVain};
 ghost use Rattle.x12_world.specs.Failing.{station_failures, CountsAsked};

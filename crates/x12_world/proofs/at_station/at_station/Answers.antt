@@ -1,5 +1,5 @@
 -- One station changes, and its place alone.
-use Rattle.std.proofs.Common.{◌≡◌, ℕ, List, ◌-◌, ◌+◌, ◌<◌, ◌≤◌, length, subst, arith, IsTrue}
+use Rattle.std.proofs.Common.{◌≡◌, ◌-◌, ◌+◌, ◌<◌, ◌≤◌, length, subst, arith, IsTrue}
 use Rattle.x12_world.specs.Running.{HasNumbers, Hubs}
 use Rattle.x12_core.specs.Sends.{sends_view}
 use Rattle.x12_world.proofs.FailingLemmas.{asked_among}

@@ -6,7 +6,6 @@ use Rattle.x12_station.specs.declared.submissions.NumberedEntry.{NumberedEntry}
 use Rattle.x12_station.specs.Durable.{item_of_arrival}
 use Rattle.x12_station.specs.History.{Item, Submitted}
 use Rattle.x12_station.specs.Memory.{SeqsRise, NumberedRow, arrival_view, memory_view, numbered_row, rows_in}
-use Rattle.x12_station.specs.Stored.{StoredArrival}
 use Rattle.x12_station.proofs.FindingLemmas.{submissions_rise, submitted_alike}
 use Rattle.x12_station.proofs.memory.MemoryRecordsRecords.find_item.Goals as goal
 
