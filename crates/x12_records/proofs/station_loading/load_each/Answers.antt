@@ -1,4 +1,4 @@
-use Rattle.std.proofs.Common.{◌+◌, ◌∙◌, ◌++◌, ap, map, drop, refl, arith, List}
+use Rattle.std.proofs.Common.{◌+◌, ◌++◌, ap, map, drop, refl, arith, List}
 use Rattle.sqlite.specs.Held.{state}
 use Rattle.x12_outbound.specs.declared.entry.Entry.{Entry}
 use Rattle.x12_outbound.specs.Entry.{entry_row}
