@@ -19,15 +19,23 @@ What changes more than bodies goes alone, in a check of the whole crate, where a
 a derive, a clause, a definition, a proof; and a function of a cycle of calls, whose functions see one another's
 routines.
 
-Every check is from nothing, over the statements of the libraries below as `rt ci` left them; where they are missing
-or old, `rt lib` makes them. A group's check is told with its processor seconds as it ends, and then each verdict. The
-last line is 'N passed, M failed'; each file in must-fail/ is counted once, whatever became of it, but for .md files.
-This tries what it is asked to; verdicts.py knows what was tried before. The test of both is verdicts_selftest.py.
+The first group of a crate is checked from nothing, over the statements of the libraries below as `rt ci` left them;
+where they are missing or old, `rt lib` makes them. Each later check begins with a copy of what the first one kept of
+what is proved, and a later group leaves in its text the first one's wrong bodies of other functions, since their
+proofs needn't be searched again. No refusal is taken from what was kept, and nothing is told as not refused before it
+was tried alone from nothing.
+
+A group's check is told with its processor seconds as it ends, and then each verdict. The last line is 'N passed, M
+failed'; each file in must-fail/ is counted once, whatever became of it, but for .md files. This tries what it is asked
+to; verdicts.py knows what was tried before. The test of both is verdicts_selftest.py.
 """
 import collections
+import contextlib
 import os
 import re
+import shutil
 import sys
+import tempfile
 from concurrent.futures import ThreadPoolExecutor, as_completed
 
 sys.dont_write_bytecode = True
@@ -145,12 +153,32 @@ def groups_of(edits):
     return groups
 
 
-def check(edits):
-    """Checks a copy that holds these edits: the functions that they change, or else the whole crate."""
-    crate, texts, only = edits[0].crate, edited(edits), [it.name for edit in edits for it in edit.functions]
-    status, said, seconds = crate.timed_check(texts, only)
+class Kept:
+    """What a crate's first check kept of what is proved, and the edits that stood in its text; no edits, no work."""
+
+    def __init__(self, folder):
+        self.folder, self.edits = folder, []
+
+    def beside(self, group):
+        """Those of its edits that change no function of this group's, where they can stand in one text with it."""
+        functions = {function for it in group for function in it.functions}
+        found = [it for it in self.edits if functions.isdisjoint(it.functions)]
+        return found if edited([*found, *group]) else []
+
+    @contextlib.contextmanager
+    def copy(self):
+        """A folder for one more check, which begins with what the first one kept; none, where that is nothing."""
+        with tempfile.TemporaryDirectory(prefix="kept-") as room:
+            yield shutil.copytree(self.folder, f"{room}/kept") if self.edits else None
+
+
+def check(edits, texts, folder=None):
+    """Checks a copy with these texts, over what a folder keeps: the functions that the edits change, or else the whole
+    crate."""
+    crate, only = edits[0].crate, [it.name for edit in edits for it in edit.functions]
+    status, said, seconds = crate.timed_check(texts, only, kept=folder)
     if status == 2 and only:  # a name that fits no function alone
-        status, said, seconds = crate.timed_check(texts)
+        status, said, seconds = crate.timed_check(texts, kept=folder)
     print(f"{crate.name}: a check of {len(edits)}, {seconds:.0f} s", flush=True)
     return status, said
 
@@ -177,23 +205,36 @@ def refusal(edit, said):
     return ""
 
 
-def try_group(group):
-    """Checks a copy that holds a group, and tells those that are refused at a function of theirs."""
+def tell_refused(group, said):
+    """Tells those of a group that a check refuses at a function of theirs."""
+    for edit in group:
+        found = refusal(edit, said)
+        if found:
+            edit.tell(f"refused, {found}")
+
+
+def try_first(group, kept):
+    """Checks a copy that holds a group, and keeps what is proved, where the text could be read."""
+    _, said = check(group, edited(group), kept.folder)
+    tell_refused(group, said)
+    if re.search("^fn ", said, re.M):
+        kept.edits = group
+
+
+def try_group(group, kept):
+    """Checks a copy that holds a group, and those beside it whose proofs needn't be searched again."""
     if group[0].functions:
-        _, said = check(group)
-        for edit in group:
-            found = refusal(edit, said)
-            if found:
-                edit.tell(f"refused, {found}")
+        with kept.copy() as folder:
+            _, said = check(group, edited([*kept.beside(group), *group]), folder)
+        tell_refused(group, said)
 
 
-def try_alone(edit):
-    """Checks a copy that holds one edit, and tells what became of it."""
+def verdict_alone(edit, folder=None):
+    """What becomes of an edit in a check of a copy that holds it alone, over what a folder keeps."""
     texts = edited([edit])
     if not texts:
-        edit.tell("BAD EDIT: it can't be applied: each old text stands once in its file")
-        return
-    status, said = check([edit])
+        return "BAD EDIT: it can't be applied: each old text stands once in its file"
+    status, said = check([edit], texts, folder)
     lines = said.rstrip().split("\n")
     errors = [it for it in lines if ERROR.match(it)]
     placed = [it for it in errors if ERROR.match(it)[1] in texts]
@@ -201,13 +242,19 @@ def try_alone(edit):
     told = [it for it in lines if GOAL.match(it) or it in errors and not TAKEN_AWAY.search(it)]
     found = refusal(edit, said)
     if bad:
-        edit.tell(f"BAD EDIT: it doesn't compile or read: {bad[0][:150]}")
-    elif found:
-        edit.tell(f"refused alone, {found}")
-    elif not edit.functions and status == 1 and lines[-1].startswith("logic=not-proved") and told:
-        edit.tell(f"refused alone, in the crate: {told[0][:150]}")
-    else:
-        edit.tell(f"NOT REFUSED: {lines[-1][:150]}")
+        return f"BAD EDIT: it doesn't compile or read: {bad[0][:150]}"
+    if found:
+        return f"refused alone, {found}"
+    if not edit.functions and status == 1 and lines[-1].startswith("logic=not-proved") and told:
+        return f"refused alone, in the crate: {told[0][:150]}"
+    return f"NOT REFUSED: {lines[-1][:150]}"
+
+
+def try_alone(edit, kept=None):
+    """Tries an edit alone, over what was kept, and from nothing before it is told as not refused."""
+    with kept.copy() if kept else contextlib.nullcontext() as folder:
+        verdict = verdict_alone(edit, folder)
+    edit.tell(verdict_alone(edit) if folder and verdict.startswith("NOT REFUSED") else verdict)
 
 
 def files_of(crate):
@@ -218,14 +265,23 @@ def files_of(crate):
     return edits, [it for it in files if it not in edits and not it.endswith(".md")]
 
 
+def try_edits(edits, kept, lanes):
+    """Tries the edits of a crate: the largest group first, then the others side by side, and what is left alone."""
+    groups = sorted(groups_of(edits), key=len, reverse=True)
+    if groups and groups[0][0].functions:
+        lanes.submit(try_first, groups.pop(0), kept).result()
+    list(lanes.map(lambda it: try_group(it, kept), groups))
+    list(lanes.map(lambda it: try_alone(it, kept), [it for it in edits if not it.verdict]))
+
+
 def try_crate(crate, lanes):
     """Tries the edits of a crate, once the libraries below it stand; returns each file's label with its verdict."""
     names, others = files_of(crate)
     edits = [Edit(crate, it) for it in names]
     try:
         crate.build_below()
-        list(lanes.map(try_group, sorted(groups_of(edits), key=len, reverse=True)))
-        list(lanes.map(try_alone, [it for it in edits if not it.verdict]))
+        with tempfile.TemporaryDirectory(prefix="kept-") as folder:
+            try_edits(edits, Kept(folder), lanes)
     except Unproved as library:
         for edit in edits:
             edit.tell(f"NOT TRIED: {library} isn't proved")

@@ -105,9 +105,10 @@ class Crate:
         they are named. Returns the exit status and what was said."""
         return self.timed_check(texts, only)[:2]
 
-    def timed_check(self, texts, only=(), tests=False):
-        """The same, and the processor seconds that it took; with its tests, where they are wanted."""
-        words = self.command("check") + ["--test"] * tests
+    def timed_check(self, texts, only=(), tests=False, kept=None):
+        """The same, and the processor seconds that it took; with its tests, where they are wanted; over what earlier
+        checks of the crate kept in a folder, where one is given."""
+        words = self.command("check") + ["--test"] * tests + (["--incremental", kept] if kept else [])
         for name in only:
             words += ["--only", name]
         with tempfile.TemporaryDirectory(prefix="edited-") as room, tempfile.TemporaryFile() as said:

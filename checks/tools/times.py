@@ -25,18 +25,19 @@ DEARER, SECONDS = 4 / 3, 10
 
 
 def rattle_times(session):
-    """For each process `rattle` of a session: its crate and whether it checks tests, with its processor seconds."""
+    """For each process `rattle` of a session, also one that another began: its crate and whether it checks tests, with its
+    processor seconds."""
     found = {}
     for number in filter(str.isdigit, os.listdir("/proc")):
         try:
             with open(f"/proc/{number}/stat", encoding="utf-8", errors="replace") as file:
-                name, _, fields = file.read().partition("(")[2].rpartition(")")
+                fields = file.read().rpartition(")")[2]
             with open(f"/proc/{number}/cmdline", encoding="utf-8", errors="replace") as file:
                 words = file.read().split("\0")
         except OSError:
             continue
         fields = fields.split()
-        if name == "rattle" and int(fields[3]) == session and "--crate-name" in words:
+        if os.path.basename(words[0]) == "rattle" and int(fields[3]) == session and "--crate-name" in words:
             key = words[words.index("--crate-name") + 1], "--test" in words
             found[number, fields[19]] = key, (int(fields[11]) + int(fields[12])) / TICKS
     return found

@@ -151,11 +151,11 @@ found_there ss party k bytes s ps count intact found posted counted all =
     ap₂ (λ c i. (Some c, i)) (counted ∙ ap (λ qs. length (posted_bytes k qs)) posted) (all ∙ ap (λ qs. list_all (bytes_eq bytes) (posted_bytes k qs)) posted)
     ∙ sym (ap (λ o. found_under o k bytes) found)
 
-abbrev pair : AddressedSet → Fate → AddressedSet × Fate
+abbrev pub pair : AddressedSet → Fate → AddressedSet × Fate
 pair set fate = (set, fate)
 
 -- the two sides, as the audit
-abbrev audit_by : TransactionSetKey → AddressedSet → Fate → Option ℕ × Bool → Audit
+abbrev pub audit_by : TransactionSetKey → AddressedSet → Fate → Option ℕ × Bool → Audit
 audit_by k set fate found = record { key = k; receiver = set.receiver; fate = fate; posted = found.0; intact = found.1 }
 
 module _ (ss : List Station) (w : World) (are : stations_of w ≡ ss) (k : TransactionSetKey) (set : AddressedSet) (fate : Fate) (found : Option ℕ × Bool)

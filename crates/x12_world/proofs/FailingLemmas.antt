@@ -1,7 +1,6 @@
 -- A fault of a node's records was counted at that node alone.
-use Rattle.std.specs.Prelude.{◌≡◌, ℕ, zero, suc, ◌-◌, ◌≤◌, ◌<◌, List, [], ◌∷◌, ◌++◌, Some, refl, length, set, slice_get, get_or, Result, Ok, Err, IfErr}
+use Rattle.std.specs.Prelude.{◌≡◌, ℕ, zero, suc, ◌<◌, List, [], ◌∷◌, ◌++◌, Some, refl, length, set, slice_get, get_or, Result, Ok, Err}
 use mathlib.Core.Path.{sym, ap, ap₂, subst, ◌∙◌}
-use native.Mathlib.Omega.{arith}
 use Rattle.std.specs.Result.{IsErrAnd}
 use Rattle.std.proofs.lemmas.List.{map-set}
 use Rattle.std.proofs.lemmas.Option.{slice_get-map, slice_get-get_or}
@@ -21,7 +20,6 @@ use Rattle.x12_world.specs.Failing.{CountsAsked, CountsOne, CountsStation, OneFa
 use Rattle.x12_world.specs.Running.{second_failures}
 use Rattle.x12_world.specs.RefusedNumber.{refused_by_core}
 use Rattle.x12_world.proofs.NetworkLemmas.{get_left}
-use Rattle.x12_world.proofs.RunningLemmas.{behind, set_behind}
 
 set_more : {X : Type 0} (xs more : List X) (i : ℕ) (x y : X) → slice_get xs i ≡ Some y → set (xs ++ more) i x ≡ set xs i x ++ more
 set_more [] more i x y e = absurd cc
@@ -29,7 +27,7 @@ set_more (z ∷ xs) more zero x y e = refl
 set_more (z ∷ xs) more (suc i) x y e = ap (λ l. z ∷ l) (set_more xs more i x y e)
 
 -- one of more that failed
-pub one_of_more : (old new more : List ℕ) → OneFailed old new → OneFailed (old ++ more) (new ++ more)
+one_of_more : (old new more : List ℕ) → OneFailed old new → OneFailed (old ++ more) (new ++ more)
 one_of_more old new more f = record {
   place = f.place;
   before = f.before;
@@ -41,22 +39,6 @@ one_of_more old new more f = record {
 
 beside_first : (h : ℕ) (old new more : List ℕ) → OneFailed old new → OneFailed ((h ∷ old) ++ more) ((h ∷ new) ++ more)
 beside_first h old new more f = one_of_more (h ∷ old) (h ∷ new) more (record { place = suc f.place; before = f.before; after = f.after; was = f.was; rose = f.rose; others = ap (λ ns. h ∷ ns) f.others })
-
-pub station_failed : {R : Type 0} → (h : ℕ) (ss : List (StationView R)) (node : ℕ) (old new : StationView R) → 1 ≤ node → node ≤ length ss → old ≡ get_or ss (node - 1) old
-    → CountRose old.failures new.failures → OneFailed (h ∷ station_failures ss) (h ∷ station_failures (set ss (node - 1) new))
-station_failed h ss node old new low high is rose = record {
-  place = node;
-  before = old.failures;
-  after = new.failures;
-  was =
-      behind h (station_failures ss) node low
-      ∙ slice_get-map (λ (s : StationView _). s.failures) ss (node - 1)
-      ∙ rw (slice_get-get_or ss (node - 1) old (omega arith)) (ap (λ (s : StationView _). Some s.failures) (sym is));
-  rose = rose;
-  others =
-      ap (λ ns. h ∷ ns) (map-set (λ (s : StationView _). s.failures) ss (node - 1) new)
-      ∙ sym (set_behind h new.failures (station_failures ss) node low);
-}
 
 -- one station failed, of these
 pub failed_among : {R : Type 0} → (ss : List (StationView R)) (i : ℕ) (old new : StationView R) → i < length ss → old ≡ get_or ss i old
@@ -132,14 +114,7 @@ counts_beside (Err e) h old new counts = record { ok = tt; refused = says_beside
 
 pub failed_behind : {H R : Type 0} → (h : CodeHubs H) (ss : List (StationView R)) (i : ℕ) (old new : StationView R) → i < length ss → old ≡ get_or ss i old
     → CountRose old.failures new.failures → OneFailed (failures_of h ss) (failures_of h (set ss i new))
-failed_behind h ss i old new within is rose = one_of_more (h.first.failures ∷ station_failures ss) (h.first.failures ∷ station_failures (set ss i new)) (second_failures h.second) (record {
-  place = suc i;
-  before = old.failures;
-  after = new.failures;
-  was = slice_get-map (λ (s : StationView _). s.failures) ss i ∙ rw (slice_get-get_or ss i old within) (ap (λ (s : StationView _). Some s.failures) (sym is));
-  rose = rose;
-  others = ap (λ ns. h.first.failures ∷ ns) (map-set (λ (s : StationView _). s.failures) ss i new);
-})
+failed_behind h ss i old new within is rose = beside_first h.first.failures (station_failures ss) (station_failures (set ss i new)) (second_failures h.second) (failed_among ss i old new within is rose)
 
 pub first_failed : {H : Type 0} → (old new : CodeHubs H) (fs : List ℕ) → new.second ≡ old.second → CountRose old.first.failures new.first.failures → OneFailed (failures_beside old fs) (failures_beside new fs)
 first_failed old new fs same rose = record { place = 0; before = old.first.failures; after = new.first.failures; was = refl; rose = rose; others = ap (λ s. (new.first.failures ∷ fs) ++ second_failures s) same }
@@ -205,8 +180,3 @@ asked_handed (Err e) f old new is counts = record { ok = tt; refused = subst (λ
 pub asked_beside : {A H R : Type 0} (r : Result A CoreFault) (h : CodeHubs H) (old new : List (StationView R)) → CountsAsked r (station_failures old) (station_failures new) → CountsAsked r (failures_of h old) (failures_of h new)
 asked_beside (Ok a) h old new counts = record { ok = ap (failures_beside h) counts.ok; refused = tt }
 asked_beside (Err f) h old new counts = record { ok = tt; refused = says_beside (refused_by_core f) h.first.failures (station_failures old) (station_failures new) (second_failures h.second) counts.refused }
-
--- a fault that a station gave, as the network says it
-pub station_told : {A : Type 0} (r : Result A Refused) (fault : StationFault) (old new : List ℕ) → IsErrAnd r (λ e. e ≡ refused.Node (OfStation fault)) → (fault ≡ station.Store → OneFailed old new) → IfErr r (λ e. SaysOneFailed e old new)
-station_told (Ok x) fault old new is failed = tt
-station_told (Err e) fault old new is failed = subst (λ (f : Refused). SaysOneFailed f old new) (sym is) failed

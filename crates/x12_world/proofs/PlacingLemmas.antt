@@ -1,5 +1,5 @@
--- The sets of an interchange by their places: the one at a key's places, and the keys of all.
-use Rattle.std.specs.Prelude.{◌≡◌, ◌≢◌, ℕ, zero, suc, ◌+◌, ◌-◌, ◌<◌, ◌≤◌, List, [], ◌∷◌, ◌++◌, Bool, true, false, ◌&&◌, ◌==◌, cond, Option, Some, None, Result, Ok, Err, map, find, flat_map, drop, length, slice_get, option_map, option_and_then, vec_len, All, OnOk, refl}
+-- The sets of an interchange by their places: the one at a key's places, and all with their keys.
+use Rattle.std.specs.Prelude.{◌≡◌, ◌≢◌, ℕ, zero, suc, ◌+◌, ◌-◌, ◌<◌, ◌≤◌, List, [], ◌∷◌, ◌++◌, Bool, true, false, ◌&&◌, ◌==◌, cond, Option, Some, None, Result, Ok, Err, map, find, flat_map, drop, get_or, length, slice_get, option_map, option_and_then, vec_len, All, OnOk, refl}
 use mathlib.Core.Path.{sym, ap, ◌∙◌}
 use mathlib.Core.Logic.{inl, inr}
 use native.Mathlib.Omega.{arith}
@@ -9,8 +9,6 @@ use Rattle.std.proofs.lemmas.Bool.Decides.{eqb_tells}
 use Rattle.std.proofs.lemmas.List.{append_assoc, append-nil, map-append}
 use Rattle.std.proofs.lemmas.List.Folds.{find-append}
 use Rattle.std.proofs.lemmas.List.Sums.{get_or-le-sum_by}
-use Rattle.x12_acks.specs.declared.key.SetKey.{SetKey}
-use Rattle.x12_acks.specs.Key.{key_view}
 use Rattle.x12_acks.specs.Submission.{TransactionSetKey}
 use Rattle.x12_envelopes.specs.declared.delimiters.Delims.{Delims}
 use Rattle.x12_envelopes.specs.declared.header.Header.{Header}
@@ -29,11 +27,11 @@ use Rattle.x12_profile.specs.Interchange.{Bytes, PlacedTransactionSet}
 use Rattle.x12_profile.specs.X12.{x12, sets_of_group}
 use Rattle.x12_profile.proofs.FieldLemmas as field
 use Rattle.x12_numbers.proofs.Shelf.{eq_itself, option_or_none}
-use Rattle.x12_station.specs.History.{key_of}
 use Rattle.x12_world.specs.Auditing.{set_under}
-use Rattle.x12_world.specs.Placing.{addressed, key_at, keys_in, sets_of_groups, stands_at}
+use Rattle.x12_world.specs.Placing.{OutgoingSet, addressed, outgoing, outgoing_at, outgoing_in, outgoing_view, sets_of_groups, stands_at}
+use Rattle.x12_world.specs.declared.placing.OutgoingSet.{OutgoingSet as CodeOutgoingSet}
 use Rattle.x12_world.proofs.AuditingLemmas.{has_key, own_of, other_number}
-use Rattle.std.proofs.Common.{ne_eqb}
+use Rattle.std.proofs.Common.{drop-cons, ne_eqb}
 use Rattle.x12_station.proofs.LedgerLemmas.{at_mapped}
 
 -- a place behind none
@@ -233,69 +231,61 @@ few_sets o few k d within = let le = get_or-le-sum_by (λ (g : GroupView). vec_l
 pub none_few : All (λ (g : GroupView). vec_len g.sets ≤ 400) []
 none_few k d within = absurd (omega (arith, within))
 
--- The keys of all sets.
-abbrev pub keys_at : Header → ℕ → FunctionalGroup → List ReadSet → ℕ → List TransactionSetKey
-keys_at h group g ss n = map (key_at h) (map (set_at group g) (enumerate_from n ss))
+-- All sets with their keys.
+abbrev pub outgoing_sets_at : Header → ℕ → FunctionalGroup → List ReadSet → ℕ → List OutgoingSet
+outgoing_sets_at h group g ss n = map (outgoing_at h) (map (set_at group g) (enumerate_from n ss))
 
 -- those of the groups from a place on
-abbrev pub keys_from : Header → List FunctionalGroup → ℕ → List TransactionSetKey
-keys_from h gs n = map (key_at h) (flat_map sets_of_group (enumerate_from n gs))
-
--- what stands first in what is left
-rest_is : {X : Type 0} (xs : List X) (i : ℕ) → i < length xs → (x : X) × (drop i xs ≡ x ∷ drop (i + 1) xs)
-rest_is [] i lt = absurd (omega (arith, lt))
-rest_is (x ∷ xs) zero lt = (x, refl)
-rest_is (x ∷ xs) (suc i) lt =
-    let more = rest_is xs i (omega (arith, lt)) in
-    let e : suc i + 1 ≡ suc (i + 1) = omega arith in
-    (more.0, more.1 ∙ sym (ap (λ n. more.0 ∷ drop n (x ∷ xs)) e))
+abbrev pub outgoing_from : Header → List FunctionalGroup → ℕ → List OutgoingSet
+outgoing_from h gs n = map (outgoing_at h) (flat_map sets_of_group (enumerate_from n gs))
 
 pushed : {X : Type 0} (a : List X) (k : X) (rest all : List X) → a ++ (k ∷ rest) ≡ all → (a ++ k ∷ []) ++ rest ≡ all
 pushed a k rest all e = append_assoc a (k ∷ []) rest ∙ e
 
--- one set more
-pub one_key : (d : Delims) (h : Header) (group : ℕ) (g : GroupView) (i n : ℕ) (before : List TransactionSetKey) (all : List TransactionSetKey) → n ≡ i + 1 → i < length g.sets.items
-    → before ++ keys_at h group (group_view d g) (map (set_view d) (drop i g.sets.items)) (i + 1) ≡ all
-    → (before ++ record { sender = h.sender; icn = h.icn; group = group; set = n } ∷ []) ++ keys_at h group (group_view d g) (map (set_view d) (drop (i + 1) g.sets.items)) (i + 1 + 1) ≡ all
-one_key d h group g i n before all is lt e =
-    let rest = rest_is g.sets.items i lt in
-    pushed before (record { sender = h.sender; icn = h.icn; group = group; set = n }) (keys_at h group (group_view d g) (map (set_view d) (drop (i + 1) g.sets.items)) (i + 1 + 1)) all
-    (ap (λ m. before ++ (record { sender = h.sender; icn = h.icn; group = group; set = m } ∷ keys_at h group (group_view d g) (map (set_view d) (drop (i + 1) g.sets.items)) (i + 1 + 1))) is
-    ∙ ap (λ xs. before ++ keys_at h group (group_view d g) (map (set_view d) xs) (i + 1)) (sym rest.1)
-    ∙ e)
+-- a set as it stands in its group
+abbrev pub outgoing_there : Header → ℕ → ℕ → Bytes → OutgoingSet
+outgoing_there h group n bytes = record {
+  key = record { sender = h.sender; icn = h.icn; group = group; set = n };
+  set = record { receiver = h.receiver; bytes = bytes };
+}
 
--- the keys of an interchange, by its header
-pub keys_by : (x : Bytes) (h : Header) → header_of x ≡ Ok h → map (key_at h) (x12.sets x) ≡ keys_in x
-keys_by x h is = each (x12.sets x)
+-- one set was put behind others
+pub pushed_set : (d : Delims) (h : Header) (group : ℕ) (g : GroupView) (i : ℕ) (x : SetView) (sets new : List CodeOutgoingSet) (one : CodeOutgoingSet) (all : List OutgoingSet) → new ≡ sets ++ one ∷ [] → outgoing_view one ≡ outgoing_there h group (i + 1) x.bytes.now
+    → x ≡ get_or g.sets.items i x → i < length g.sets.items
+    → map outgoing_view sets ++ outgoing_sets_at h group (group_view d g) (map (set_view d) (drop i g.sets.items)) (i + 1) ≡ all
+    → map outgoing_view new ++ outgoing_sets_at h group (group_view d g) (map (set_view d) (drop (i + 1) g.sets.items)) (i + 1 + 1) ≡ all
+pushed_set d h group g i x sets new one all is view at lt e =
+    let rest = outgoing_sets_at h group (group_view d g) (map (set_view d) (drop (i + 1) g.sets.items)) (i + 1 + 1) in
+    let next : i + 1 ≡ suc i = omega arith in
+    let cut : drop i g.sets.items ≡ x ∷ drop (i + 1) g.sets.items =
+    drop-cons g.sets.items i x lt ∙ ap (λ y. y ∷ drop (suc i) g.sets.items) (sym at) ∙ ap (λ n. x ∷ drop n g.sets.items) (sym next) in
+    ap (λ ks. map outgoing_view ks ++ rest) is
+    ∙ ap (λ ks. ks ++ rest) (map-append outgoing_view sets (one ∷ []))
+    ∙ ap (λ k. (map outgoing_view sets ++ k ∷ []) ++ rest) view
+    ∙ pushed (map outgoing_view sets) (outgoing_there h group (i + 1) x.bytes.now) rest all
+    (ap (λ xs. map outgoing_view sets ++ outgoing_sets_at h group (group_view d g) (map (set_view d) xs) (i + 1)) (sym cut) ∙ e)
+
+-- the sets of an interchange, by its header
+pub sets_by : (x : Bytes) (h : Header) → header_of x ≡ Ok h → map (outgoing_at h) (x12.sets x) ≡ outgoing_in x
+sets_by x h is = each (x12.sets x)
   where
-    one : (t : PlacedTransactionSet) → key_at h t ≡ key_of x12 x t.place
-    one t = rw (field.sender_is x h is, field.number_is x h is) refl
+    one : (t : PlacedTransactionSet) → outgoing_at h t ≡ outgoing (record { interchange = x; set = t })
+    one t = rw (field.sender_is x h is, field.number_is x h is, field.receiver_is x h is) refl
 
-    each : (ts : List PlacedTransactionSet) → map (key_at h) ts ≡ map (λ (t : PlacedTransactionSet). key_of x12 x t.place) ts
+    each : (ts : List PlacedTransactionSet) → map (outgoing_at h) ts ≡ map (λ (t : PlacedTransactionSet). outgoing (record { interchange = x; set = t })) ts
     each [] = refl
-    each (t ∷ ts) = rw (each ts) (ap (λ k. k ∷ map (λ (t : PlacedTransactionSet). key_of x12 x t.place) ts) (one t))
+    each (t ∷ ts) = rw (each ts) (ap (λ k. k ∷ map (λ (t : PlacedTransactionSet). outgoing (record { interchange = x; set = t })) ts) (one t))
 
-pub no_keys : (x : Bytes) (f : HeaderFault) → header_of x ≡ Err f → keys_in x ≡ []
-no_keys x f is = ap (map (λ (t : PlacedTransactionSet). key_of x12 x t.place)) (field.no_sets_of x f is)
+no_sets : (x : Bytes) (f : HeaderFault) → header_of x ≡ Err f → outgoing_in x ≡ []
+no_sets x f is = ap (map (λ (t : PlacedTransactionSet). outgoing (record { interchange = x; set = t }))) (field.no_sets_of x f is)
 
--- one key was put behind others
-pub pushed_key : (d : Delims) (h : Header) (group : ℕ) (g : GroupView) (i : ℕ) (keys new : List SetKey) (x : SetKey) (all : List TransactionSetKey) → new ≡ keys ++ x ∷ [] → key_view x ≡ record { sender = h.sender; icn = h.icn; group = group; set = i + 1 } → i < length g.sets.items
-    → map key_view keys ++ keys_at h group (group_view d g) (map (set_view d) (drop i g.sets.items)) (i + 1) ≡ all
-    → map key_view new ++ keys_at h group (group_view d g) (map (set_view d) (drop (i + 1) g.sets.items)) (i + 1 + 1) ≡ all
-pushed_key d h group g i keys new x all is view lt e =
-    let rest = keys_at h group (group_view d g) (map (set_view d) (drop (i + 1) g.sets.items)) (i + 1 + 1) in
-    ap (λ ks. map key_view ks ++ rest) is
-    ∙ ap (λ ks. ks ++ rest) (map-append key_view keys (x ∷ []))
-    ∙ ap (λ k. (map key_view keys ++ k ∷ []) ++ rest) view
-    ∙ one_key d h group g i (i + 1) (map key_view keys) all refl lt e
+-- bytes without a header have no sets
+pub no_sets_in : (x : Bytes) (r : Result Header HeaderFault) (before : List OutgoingSet) → r ≡ header_of x → ((h : Header) → r ≢ Ok h) → before ≡ before ++ outgoing_in x
+no_sets_in x (Ok h) before is none = absurd (none h refl)
+no_sets_in x (Err f) before is none = sym (append-nil before) ∙ ap (λ ks. before ++ ks) (sym (no_sets x f (sym is)))
 
--- bytes without a header have no keys
-pub no_keys_in : (x : Bytes) (r : Result Header HeaderFault) (before : List TransactionSetKey) → r ≡ header_of x → ((h : Header) → r ≢ Ok h) → before ≡ before ++ keys_in x
-no_keys_in x (Ok h) before is none = absurd (none h refl)
-no_keys_in x (Err f) before is none = sym (append-nil before) ∙ ap (λ ks. before ++ ks) (sym (no_keys x f (sym is)))
-
-pub all_keys : {E : Type 0} (x : Bytes) (h : Header) (gs seen : List GroupView) (before after : List TransactionSetKey) (r : Result (Unit {0}) E) → header_of x ≡ Ok h → x12.sets x ≡ sets_of_groups h.delims gs → seen ≡ gs
-    → OnOk r (after ≡ before ++ map (key_at h) (sets_of_groups h.delims seen)) → OnOk r (after ≡ before ++ keys_in x)
-all_keys x h gs seen before after (Ok u) is sets same put =
-    put ∙ ap (λ xs. before ++ map (key_at h) (sets_of_groups h.delims xs)) same ∙ ap (λ ts. before ++ map (key_at h) ts) (sym sets) ∙ ap (λ ks. before ++ ks) (keys_by x h is)
-all_keys x h gs seen before after (Err e) is sets same put = tt
+pub all_sets : {E : Type 0} (x : Bytes) (h : Header) (gs seen : List GroupView) (before after : List OutgoingSet) (r : Result (Unit {0}) E) → header_of x ≡ Ok h → x12.sets x ≡ sets_of_groups h.delims gs → seen ≡ gs
+    → OnOk r (after ≡ before ++ map (outgoing_at h) (sets_of_groups h.delims seen)) → OnOk r (after ≡ before ++ outgoing_in x)
+all_sets x h gs seen before after (Ok u) is sets same put =
+    put ∙ ap (λ xs. before ++ map (outgoing_at h) (sets_of_groups h.delims xs)) same ∙ ap (λ ts. before ++ map (outgoing_at h) ts) (sym sets) ∙ ap (λ ks. before ++ ks) (sets_by x h is)
+all_sets x h gs seen before after (Err e) is sets same put = tt

@@ -1,6 +1,6 @@
 //! What a network is asked of its stations.
 
-ghost use Rattle.std.specs.Prelude.{◌≡◌, ◌<◌, ◌∷◌, ◌++◌, ℕ, List, IsTrue, IfOk, IfErr, None, find, is_some};
+ghost use Rattle.std.specs.Prelude.{◌≡◌, ◌<◌, IsTrue, IfOk, IfErr, None, find, is_some};
 ghost use Rattle.std.specs.Prelude.{length, map, slice_get};
 ghost use Rattle.x12_acks.specs.Key.{key_view};
 ghost use Rattle.x12_inbound.specs.Posting.{posting_view};
@@ -11,7 +11,7 @@ ghost use Rattle.x12_world.specs.declared.refused.Refused.TheVariants.{NoSuchNod
 ghost use Rattle.x12_world.specs.Asking.{HoldsByKey, IsAskRefused, IsSaidAt, IsUnanswered};
 ghost use Rattle.x12_world.specs.Asking.{states_of};
 ghost use Rattle.x12_world.specs.Audit.{station_named};
-ghost use Rattle.x12_world.specs.Failing.{station_failures, SaysOneFailed};
+ghost use Rattle.x12_world.specs.Failing.{CountsOne, station_failures};
 ghost use Rattle.x12_world.specs.Running.{BesideAnyHubs, all_answer, station_nodes};
 
 use crate::admitting::is_station;
@@ -55,9 +55,8 @@ fn postings_at<R: Records>(
         (λ s. map posting_view v.items ≡ postings x12 s.items))) }
     ensures refused { IfErr result (λ r.
         BesideAnyHubs stations.old.items (λ nodes. IsAskRefused nodes node r)) }
-    ensures store { IfErr result (λ r. (h : ℕ) (more : List ℕ) → SaysOneFailed r
-        ((h ∷ station_failures stations.old.items) ++ more)
-        ((h ∷ station_failures stations.new.items) ++ more)) }
+    ensures store { CountsOne result
+        (station_failures stations.old.items) (station_failures stations.new.items) }
     ensures len { length stations.new.items ≡ length stations.old.items }
 {
     if !is_station(stations, node) {
@@ -96,7 +95,7 @@ impl<R: Records, H: HubRecords> World<R, H> {
             IfOk result (HoldsByKey self.old.world (key_view key.now)) }
         ensures refused { IfErr result
             (IsUnanswered (is_some (station_named self.old.world key.now.sender))) }
-        ensures store { IfErr result (λ r. SaysOneFailed r self.old.failures self.new.failures) }
+        ensures store { CountsOne result self.old.failures self.new.failures }
     {
         let place = place_of(&key.sender, &self.stations)?;
         Ok(self.stations[place].fate(key)?)
@@ -113,7 +112,7 @@ impl<R: Records, H: HubRecords> World<R, H> {
             IsSaidAt self.old.world.nodes node
             (λ s. map posting_view v.items ≡ postings x12 s.items)) }
         ensures refused { IfErr result (IsAskRefused self.old.world.nodes node) }
-        ensures store { IfErr result (λ r. SaysOneFailed r self.old.failures self.new.failures) }
+        ensures store { CountsOne result self.old.failures self.new.failures }
     {
         postings_at(&mut self.stations, node)
     }

@@ -116,7 +116,7 @@ fn held_at<R: Records>(
 }
 
 /// What the station of the key's sender, if there is one, has of its set. V5 and V3.
-pub(crate) fn held_by_sender<R: Records>(
+fn held_by_sender<R: Records>(
     alloc: Global,
     stations: &mut Vec<Station<R>>,
     key: &SetKey,

@@ -1,28 +1,32 @@
 //! The audits of all that the stations submitted.
 
-ghost use Rattle.std.specs.Prelude.{◌≡◌, ◌++◌, All, IsTrue, IfErr, IfOk, OnOk, length, map, option_map, option_to_list};
+ghost use Rattle.std.specs.Prelude.{◌≡◌, ◌++◌, All, IsTrue, IfErr, IfOk, OnOk, length, map, option_and_then, option_map};
+ghost use Rattle.std.specs.Prelude.{option_to_list};
 ghost use Rattle.x12_acks.specs.Key.{key_view};
 ghost use Rattle.x12_profile.specs.X12.{x12};
-ghost use Rattle.x12_world.specs.Failing.{CountsOne, station_failures};
+ghost use Rattle.x12_station.specs.StationStep.{fate_by_key};
+ghost use Rattle.x12_world.specs.Failing.{CountsOne, CountsStation, station_failures};
 ghost use Rattle.x12_world.specs.Asking.{states_of, IsMissed};
 ghost use Rattle.x12_world.specs.Audit.{audit, stations_of};
 ghost use Rattle.x12_world.specs.Auditing.{audit_view, found_under, station_among, IsAuditAmong};
 ghost use Rattle.x12_world.specs.Audits.{audits_under, AreAudits, HasStations};
+ghost use Rattle.x12_world.specs.Listing.{keys_of_sets, IsSubmittedBy};
+ghost use Rattle.x12_world.specs.Placing.{outgoing_view};
 ghost use Rattle.x12_world.specs.Posted.{ArePosted};
 ghost use Rattle.x12_world.specs.Running.{all_answer};
-ghost use Rattle.x12_world.specs.Submission.{NumbersRise};
 ghost use Rattle.x12_world.specs.World.{World};
 
 use crate::asking::place_of;
 use crate::audit::Audit;
-use crate::auditing::held_by_sender;
-use crate::listing::keys_among;
+use crate::listing::sets_among;
+use crate::placing::OutgoingSet;
 use crate::posted::{Posted, posted_by_all, tally};
 use crate::refused::Refused;
 use std::alloc::Global;
 use x12_acks::SetKey;
 use x12_core::Listed;
 use x12_envelopes::Party;
+use x12_outbound::Fate;
 use x12_station::{Records, Station};
 
 /// How many postings the station of this party, if there is one, has under a key, and whether each has
@@ -45,12 +49,46 @@ fn found_among<R: Records>(
     (Some(found.0), found.1)
 }
 
-/// What is found of the submitted set of this key. V5 and V3.
+/// How the set of this key fares at a station; `None` where that submitted none. V5 and V3.
+fn fate_at<R: Records>(station: &mut Station<R>, key: &SetKey) -> Result<Option<Fate>, Refused>
+    ensures never_won_back { IsTrue station.new.answers → IsTrue station.old.answers }
+    ensures same { IsTrue station.new.answers → station.new.state ≡ station.old.state }
+    ensures fate { IsTrue station.new.answers →
+        IfOk result (λ o. o ≡ fate_by_key x12 station.old.state (key_view key.now)) }
+    ensures refused { IfErr result IsMissed }
+    ensures store { CountsStation result station.old.failures station.new.failures }
+{
+    Ok(station.fate(key)?)
+}
+
+/// How a set fares at the station of its key's sender; `None` where that submitted none. V5 and V3.
+fn fate_by_sender<R: Records>(
+    stations: &mut Vec<Station<R>>,
+    key: &SetKey,
+) -> Result<Option<Fate>, Refused>
+    ensures never_won_back { IsTrue (all_answer stations.new.items) →
+        IsTrue (all_answer stations.old.items) }
+    ensures same { IsTrue (all_answer stations.new.items) →
+        states_of stations.new.items ≡ states_of stations.old.items }
+    ensures fate { IsTrue (all_answer stations.new.items) → IfOk result (λ o. o
+        ≡ option_and_then (λ s. fate_by_key x12 s (key_view key.now))
+        (station_among (states_of stations.old.items) key.now.sender)) }
+    ensures refused { IfErr result IsMissed }
+    ensures len { length stations.new.items ≡ length stations.old.items }
+    ensures store { CountsOne result
+        (station_failures stations.old.items) (station_failures stations.new.items) }
+{
+    let Ok(place) = place_of(&key.sender, stations) else {
+        return Ok(None);
+    };
+    fate_at(&mut stations[place], key)
+}
+
+/// What is found of a submitted set. V5 and V3.
 fn audit_with<R: Records>(
-    alloc: Global,
     stations: &mut Vec<Station<R>>,
     posted: &[Posted],
-    key: &SetKey,
+    sent: &OutgoingSet,
 ) -> Result<Option<Audit>, Refused>
     requires { length posted.now ≡ length stations.old.items }
     ensures never_won_back { IsTrue (all_answer stations.new.items) →
@@ -58,34 +96,34 @@ fn audit_with<R: Records>(
     ensures same { IsTrue (all_answer stations.new.items) →
         states_of stations.new.items ≡ states_of stations.old.items }
     ensures audit { IsTrue (all_answer stations.new.items) →
-        All NumbersRise (states_of stations.old.items) →
+        IsSubmittedBy (states_of stations.old.items) (outgoing_view sent.now) →
         ArePosted (states_of stations.old.items) posted.now → IfOk result (λ o. IsAuditAmong
-        (states_of stations.old.items) (key_view key.now) (option_map audit_view o)) }
+        (states_of stations.old.items) (key_view sent.now.key) (option_map audit_view o)) }
     ensures refused { IfErr result IsMissed }
     ensures len { length stations.new.items ≡ length stations.old.items }
     ensures store { CountsOne result
         (station_failures stations.old.items) (station_failures stations.new.items) }
 {
-    let Some((set, fate)) = held_by_sender(alloc, stations, key)? else {
+    let Some(fate) = fate_by_sender(stations, &sent.key)? else {
         return Ok(None);
     };
-    let found = found_among(stations, posted, &set.receiver, key, &set.bytes);
+    let receiver = sent.set.receiver;
+    let found = found_among(stations, posted, &receiver, &sent.key, &sent.set.bytes);
     Ok(Some(Audit {
-        key: *key,
-        receiver: set.receiver,
+        key: sent.key,
+        receiver,
         fate,
         posted: found.0,
         intact: found.1,
     }))
 }
 
-/// Puts what is found of the submitted set of this key, if there is one, behind others. V5 and V3.
+/// Puts what is found of a submitted set behind others. V5 and V3.
 fn push_audit<R: Records>(
-    alloc: Global,
     found: &mut Vec<Audit>,
     stations: &mut Vec<Station<R>>,
     posted: &[Posted],
-    key: &SetKey,
+    sent: &OutgoingSet,
 ) -> Result<(), Refused>
     requires { length posted.now ≡ length stations.old.items }
     ensures never_won_back { IsTrue (all_answer stations.new.items) →
@@ -93,27 +131,28 @@ fn push_audit<R: Records>(
     ensures same { IsTrue (all_answer stations.new.items) →
         states_of stations.new.items ≡ states_of stations.old.items }
     ensures found { (w : World) → stations_of w ≡ states_of stations.old.items →
-        IsTrue (all_answer stations.new.items) → All NumbersRise (states_of stations.old.items) →
+        IsTrue (all_answer stations.new.items) →
+        IsSubmittedBy (states_of stations.old.items) (outgoing_view sent.now) →
         ArePosted (states_of stations.old.items) posted.now →
-        OnOk result (map audit_view found.new.items
-        ≡ map audit_view found.old.items ++ option_to_list (audit x12 w (key_view key.now))) }
+        OnOk result (map audit_view found.new.items ≡ map audit_view found.old.items
+        ++ option_to_list (audit x12 w (key_view sent.now.key))) }
     ensures refused { IfErr result IsMissed }
     ensures len { length stations.new.items ≡ length stations.old.items }
     ensures store { CountsOne result
         (station_failures stations.old.items) (station_failures stations.new.items) }
 {
-    match audit_with(alloc, stations, posted, key)? {
+    match audit_with(stations, posted, sent)? {
         Some(audit) => Ok(found.push(audit)?),
         None => Ok(()),
     }
 }
 
-/// What is found of the submitted sets of these keys, in their order. V5 and V3.
+/// What is found of these submitted sets, in their order. V5 and V3.
 fn audit_each<R: Records>(
     alloc: Global,
     stations: &mut Vec<Station<R>>,
     posted: &[Posted],
-    keys: &[SetKey],
+    sets: &[OutgoingSet],
 ) -> Result<Vec<Audit>, Refused>
     requires { length posted.now ≡ length stations.old.items }
     ensures never_won_back { IsTrue (all_answer stations.new.items) →
@@ -121,17 +160,18 @@ fn audit_each<R: Records>(
     ensures same { IsTrue (all_answer stations.new.items) →
         states_of stations.new.items ≡ states_of stations.old.items }
     ensures found { (w : World) → stations_of w ≡ states_of stations.old.items →
-        IsTrue (all_answer stations.new.items) → All NumbersRise (states_of stations.old.items) →
-        ArePosted (states_of stations.old.items) posted.now →
-        IfOk result (λ v. map audit_view v.items ≡ audits_under w (map key_view keys.now)) }
+        IsTrue (all_answer stations.new.items) →
+        All (λ s. IsSubmittedBy (states_of stations.old.items) (outgoing_view s)) sets.now →
+        ArePosted (states_of stations.old.items) posted.now → IfOk result (λ v.
+        map audit_view v.items ≡ audits_under w (keys_of_sets (map outgoing_view sets.now))) }
     ensures refused { IfErr result IsMissed }
     ensures len { length stations.new.items ≡ length stations.old.items }
     ensures store { CountsOne result
         (station_failures stations.old.items) (station_failures stations.new.items) }
 {
-    let mut found = Vec::with_capacity(alloc, keys.len())?;
-    for key in keys {
-        push_audit(alloc, &mut found, stations, posted, key)?;
+    let mut found = Vec::with_capacity(alloc, sets.len())?;
+    for sent in sets {
+        push_audit(&mut found, stations, posted, sent)?;
     }
     Ok(found)
 }
@@ -160,7 +200,7 @@ pub fn audit_all<R: Records>(
 {
     // law: what holds of each world that a network can reach
     crate::x12::reached();
-    let keys = keys_among(alloc, stations, submitted)?;
+    let sets = sets_among(alloc, stations, submitted)?;
     let posted = posted_by_all(alloc, stations)?;
-    audit_each(alloc, stations, &posted, &keys)
+    audit_each(alloc, stations, &posted, &sets)
 }

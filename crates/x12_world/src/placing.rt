@@ -1,4 +1,4 @@
-//! The transaction sets of an interchange by their places: the one of a key, and the keys of all.
+//! The transaction sets of an interchange by their places: the one of a key, and all with their keys.
 
 ghost use Rattle.std.specs.Prelude.{◌≡◌, ◌≤◌, ◌++◌, Ok, IfOk, OnOk, find, map};
 ghost use Rattle.std.specs.Prelude.{length, option_map, vec_len};
@@ -11,18 +11,25 @@ ghost use Rattle.x12_envelopes.specs.Shape.{group_view};
 ghost use Rattle.x12_outbound.specs.Entry.{at_place};
 ghost use Rattle.x12_profile.specs.X12.{x12, sets_of_group};
 ghost use Rattle.x12_world.specs.Auditing.{set_under};
-ghost use Rattle.x12_world.specs.Placing.{addressed, addressed_view, keys_in, key_at};
-ghost use Rattle.x12_world.specs.Placing.{sets_of_groups, stands_at};
+ghost use Rattle.x12_world.specs.Placing.{addressed, addressed_view, outgoing_at, outgoing_in};
+ghost use Rattle.x12_world.specs.Placing.{outgoing_view, sets_of_groups, stands_at};
 
 use std::alloc::{AllocError, Global};
 use x12_acks::SetKey;
 use x12_envelopes::{GroupView, Header, OutlineFault, Party, outline, read_header};
 
 /// A submitted transaction set as it was sent: the party that it was submitted to, and its bytes.
-#[derive(Debug, Drop)]
+#[derive(Drop)]
 pub(crate) struct Addressed {
     pub receiver: Party,
     pub bytes: Vec<u8>,
+}
+
+/// A submitted transaction set as it was sent, with its key.
+#[derive(Drop)]
+pub(crate) struct OutgoingSet {
+    pub key: SetKey,
+    pub set: Addressed,
 }
 
 /// The functional groups of an interchange; none where its segments can't be read.
@@ -98,57 +105,67 @@ pub(crate) fn set_of_key(
     }
 }
 
-/// Puts the keys of the transaction sets of the group at a place behind others.
+/// Puts the transaction sets of the group at a place behind others, as they were sent.
 fn push_group(
-    keys: &mut Vec<SetKey>,
+    alloc: Global,
+    sets: &mut Vec<OutgoingSet>,
     header: &Header,
     place: u16,
     group: &GroupView<'_>,
 ) -> Result<(), AllocError>
     requires { vec_len group.now.sets ≤ 400 }
-    ensures { (d : Delims) → OnOk result (map key_view keys.new.items ≡ map key_view keys.old.items
-        ++ map (key_at header.now) (sets_of_group (place, group_view d group.now))) }
+    ensures { (d : Delims) → OnOk result (map outgoing_view sets.new.items
+        ≡ map outgoing_view sets.old.items
+        ++ map (outgoing_at header.now) (sets_of_group (place, group_view d group.now))) }
 {
     for index in 0..group.sets.len() {
-        keys.push(SetKey {
-            sender: header.sender,
-            icn: header.icn,
-            group: place,
-            set: index as u16 + 1,
+        sets.push(OutgoingSet {
+            key: SetKey {
+                sender: header.sender,
+                icn: header.icn,
+                group: place,
+                set: index as u16 + 1,
+            },
+            set: Addressed {
+                receiver: header.receiver,
+                bytes: Vec::from_slice(alloc, group.sets[index].bytes)?,
+            },
         })?;
     }
     Ok(())
 }
 
-/// Puts the keys of the transaction sets of groups behind others.
+/// Puts the transaction sets of groups behind others, as they were sent.
 fn push_groups(
-    keys: &mut Vec<SetKey>,
+    alloc: Global,
+    sets: &mut Vec<OutgoingSet>,
     header: &Header,
     groups: &[GroupView<'_>],
 ) -> Result<(), AllocError>
     requires few { length groups.now ≤ 32 }
     requires short { All (λ g. vec_len g.sets ≤ 400) groups.now }
-    ensures { (d : Delims) → OnOk result (map key_view keys.new.items ≡ map key_view keys.old.items
-        ++ map (key_at header.now) (sets_of_groups d groups.now)) }
+    ensures { (d : Delims) → OnOk result (map outgoing_view sets.new.items
+        ≡ map outgoing_view sets.old.items
+        ++ map (outgoing_at header.now) (sets_of_groups d groups.now)) }
 {
     for (index, group) in groups.iter().enumerate() {
-        push_group(keys, header, index as u16 + 1, group)?;
+        push_group(alloc, sets, header, index as u16 + 1, group)?;
     }
     Ok(())
 }
 
-/// Puts the keys of the transaction sets of an interchange behind others.
-pub(crate) fn push_keys(
+/// Puts the transaction sets of an interchange behind others, as they were sent.
+pub(crate) fn push_sets(
     alloc: Global,
-    keys: &mut Vec<SetKey>,
+    sets: &mut Vec<OutgoingSet>,
     bytes: &[u8],
 ) -> Result<(), AllocError>
-    ensures { OnOk result (map key_view keys.new.items
-        ≡ map key_view keys.old.items ++ keys_in bytes.now) }
+    ensures { OnOk result (map outgoing_view sets.new.items
+        ≡ map outgoing_view sets.old.items ++ outgoing_in bytes.now) }
 {
     let Ok(header) = read_header(bytes) else {
         return Ok(());
     };
     let groups = groups_of(alloc, bytes, &header)?;
-    push_groups(keys, &header, &groups)
+    push_groups(alloc, sets, &header, &groups)
 }

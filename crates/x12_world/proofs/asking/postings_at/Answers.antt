@@ -1,7 +1,7 @@
 -- The station stays as it is, and so do the nodes.
 use Rattle.std.proofs.Common.{◌-◌, subst, arith, IsTrue}
 use Rattle.x12_world.proofs.RunningLemmas.{answers_there, answered_before, station_there, stations_kept}
-use Rattle.x12_world.proofs.FailingLemmas.{one_of_more, station_failed}
+use Rattle.x12_world.proofs.FailingLemmas.{counts_alike, failed_among}
 use Rattle.x12_world.proofs.asking.postings_at.Goals as goal
 
 pub returns-in-Ok-clause-never_won_back : goal.returns-in-Ok-clause-never_won_back
@@ -48,9 +48,21 @@ returns-in-Err-clause-same g c = λ answers.
     stations_kept ss.items i new c.index_mut-station.result.now c.index_mut-station.ensures.value
     (c.in-Err.ensures.same (answers_there ss.items i new (let e = ss.ok.0 in let low = number.0 in let high = number.1 in omega arith) answers))
 
-pub returns-in-Err-clause-store : goal.returns-in-Err-clause-store
-returns-in-Err-clause-store g c = λ h more is.
+pub returns-in-Ok-clause-store : goal.returns-in-Ok-clause-store
+returns-in-Ok-clause-store g c =
     let ss = c.args.stations.now in
     let number = c.is_station.ensures.number c.if-not-is_station.false in
-    one_of_more _ _ more (station_failed h ss.items c.args.node c.index_mut-station.result.now c.postings.new.self number.0 (let e = ss.ok.0 in let high = number.1 in omega arith) c.index_mut-station.ensures.value
-    (c.in-Err.ensures.store.device is))
+    record {
+      ok = counts_alike ss.items (c.args.node - 1) c.index_mut-station.result.now c.postings.new.self (let e = ss.ok.0 in let low = number.0 in let high = number.1 in omega arith) c.index_mut-station.ensures.value c.in-Ok.ensures.store.ok;
+      refused = tt;
+    }
+
+pub returns-in-Err-clause-store : goal.returns-in-Err-clause-store
+returns-in-Err-clause-store g c =
+    let ss = c.args.stations.now in
+    let number = c.is_station.ensures.number c.if-not-is_station.false in
+    record {
+      ok = tt;
+      refused = λ is. failed_among ss.items (c.args.node - 1) c.index_mut-station.result.now c.postings.new.self (let e = ss.ok.0 in let low = number.0 in let high = number.1 in omega arith) c.index_mut-station.ensures.value
+          (c.in-Err.ensures.store.device is);
+    }

@@ -1,6 +1,6 @@
 -- One station more.
 use Rattle.std.proofs.Common.{◌<◌, length, length-set, map, ◌∙◌, arith}
-use Rattle.x12_acks.specs.Key.{key_view}
+use Rattle.x12_world.specs.Placing.{outgoing_view}
 use Rattle.x12_world.proofs.FailingLemmas.{counts_alike, counts_among, counts_behind, counts_handed}
 use Rattle.x12_world.proofs.AuditingLemmas.{asked_still, asked_states}
 use Rattle.x12_world.proofs.RunningLemmas.{answers_there}
@@ -33,10 +33,10 @@ loop-place-preserved g c =
       same = λ answers. asked_states ss i old new within is c.push_station.ensures.same answers ∙ c.loop-place.invariant.same (asked_still ss i old new within is c.push_station.ensures.never_won_back answers);
       counts = counts_alike ss i old new within is c.in_ok-push_station.ensures.store.ok ∙ c.loop-place.invariant.counts;
       long = length-set ss i new ∙ c.loop-place.invariant.long;
-      keys = λ answers listed rise.
+      sets = λ answers listed rise.
           let was = asked_still ss i old new within is c.push_station.ensures.never_won_back answers in
-          gathered c.args.stations.now.items ss i old c.args.submitted.now (map key_view c.loop-place.keys.items) (map key_view c.push_station.new.keys.items) within is
-          (c.loop-place.invariant.same was) listed rise (c.loop-place.invariant.keys was listed rise) (c.in_ok-push_station.ensures.keys (answers_there ss i new within answers));
+          gathered c.args.stations.now.items ss i old c.args.submitted.now (map outgoing_view c.loop-place.sets.items) (map outgoing_view c.push_station.new.sets.items) within is
+          (c.loop-place.invariant.same was) listed rise (c.loop-place.invariant.sets was listed rise) (c.in_ok-push_station.ensures.sets (answers_there ss i new within answers));
     }
 
 pub returns-in_err-push_station-clause-store : goal.returns-in_err-push_station-clause-store

@@ -1,7 +1,7 @@
--- the keys so far, and those of the numbers that are left
+-- the sets so far, and those of the numbers that are left
 use Rattle.std.proofs.Common.{◌≡◌, ◌++◌, IsTrue, drop, flat_map, map}
-use Rattle.x12_acks.specs.Key.{key_view}
-use Rattle.x12_world.specs.Listing.{keys_under}
+use Rattle.x12_world.specs.Listing.{outgoing_under}
+use Rattle.x12_world.specs.Placing.{outgoing_view}
 use Rattle.x12_world.specs.Submission.{numbers_at}
 use Rattle.x12_world.proofs.listing.push_station.Given as goal
 
@@ -10,7 +10,7 @@ invariant-loop-submission g l = record {
   never_won_back : IsTrue l.station.answers → IsTrue l.initial.station.answers;
   same : IsTrue l.station.answers → l.station.state ≡ l.initial.station.state;
   counts : l.station.failures ≡ l.initial.station.failures;
-  keys : IsTrue l.station.answers →
-      map key_view l.keys.items ++ flat_map (keys_under l.initial.station.state.items) (numbers_at l.node (drop l.submission-index l.submitted))
-      ≡ map key_view l.initial.keys.items ++ flat_map (keys_under l.initial.station.state.items) (numbers_at l.node l.submitted);
+  sets : IsTrue l.station.answers →
+      map outgoing_view l.sets.items ++ flat_map (outgoing_under l.initial.station.state.items) (numbers_at l.node (drop l.submission-index l.submitted))
+      ≡ map outgoing_view l.initial.sets.items ++ flat_map (outgoing_under l.initial.station.state.items) (numbers_at l.node l.submitted);
 }

@@ -1,7 +1,8 @@
 use Rattle.std.proofs.Common.{◌<◌, ◌≡◌, true, is_some, length, ap, subst}
 use Rattle.x12_world.specs.Audit.{station_named}
+use Rattle.x12_world.specs.Failing.{failures_beside}
 use Rattle.x12_world.proofs.world.World.fate.Goals as goal
-use Rattle.x12_world.proofs.FailingLemmas.{failed_behind, station_told}
+use Rattle.x12_world.proofs.FailingLemmas.{counts_alike, counts_told, failed_behind}
 use Rattle.x12_world.proofs.AskingLemmas.{station_found, none_found, answered, stays, stays_reached, asked_answers, handed_on, handed_same}
 
 pub invariant_of-self : goal.invariant_of-self
@@ -83,5 +84,16 @@ returns-in_err-fate-clause-store g c =
     let there = c.in_ok-place.ensures.there in
     let within : c.in_ok-place.place < length ss.items = subst (λ rs. c.in_ok-place.place < length rs) c.deref.ensures.value there.0 in
     rw (← c.self.view_is)
-    (station_told c.from_residual-in_err-fate.result c.in_err-fate.field-0.0 _ _ c.from_residual-in_err-fate.ensures.1
+    (counts_told c.from_residual-in_err-fate.result c.in_err-fate.field-0.0 _ _ c.from_residual-in_err-fate.ensures.1
     (λ is. failed_behind c.self.inside.hubs ss.items c.in_ok-place.place c.index_mut.result.now c.fate.new.self within c.index_mut.ensures.value (c.in_err-fate.ensures.store.device is)))
+
+pub returns-clause-store : goal.returns-clause-store
+returns-clause-store g c =
+    let ss = c.self.inside.stations in
+    let there = c.in_ok-place.ensures.there in
+    let within : c.in_ok-place.place < length ss.items = subst (λ rs. c.in_ok-place.place < length rs) c.deref.ensures.value there.0 in
+    rw (← c.self.view_is)
+    (record {
+      ok = ap (failures_beside c.self.inside.hubs) (counts_alike ss.items c.in_ok-place.place c.index_mut.result.now c.fate.new.self within c.index_mut.ensures.value c.in_ok-fate.ensures.store.ok);
+      refused = tt;
+    })

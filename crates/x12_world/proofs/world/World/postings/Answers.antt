@@ -1,6 +1,7 @@
 -- What a station says is said at its node.
 use Rattle.x12_world.specs.Running.{hubs_in}
 use Rattle.x12_world.proofs.ActingLemmas.{stations_answer}
+use Rattle.x12_world.proofs.FailingLemmas.{counts_beside}
 use Rattle.x12_world.proofs.RunningLemmas.{few_numbers, if_err}
 use Rattle.std.proofs.lemmas.Result.{IfOk-weaker}
 use Rattle.x12_world.proofs.SubmissionLemmas.{states_by}
@@ -22,3 +23,8 @@ returns-clause-postings g c = λ answers. rw (← c.self.view_is)
 pub returns-clause-refused : goal.returns-clause-refused
 returns-clause-refused g c = rw (← c.self.view_is)
     (if_err c.postings_at.result _ _ (λ r said. said (hubs_in c.self.inside.hubs) (few_numbers c.self.inside.hubs c.self.inside.stations.items c.self.invariant.few)) c.postings_at.ensures.refused)
+
+pub returns-clause-store : goal.returns-clause-store
+returns-clause-store g c =
+    let s = c.self.inside in
+    rw (← c.self.view_is) (counts_beside c.postings_at.result s.hubs s.stations.items c.postings_at.new.stations.items c.postings_at.ensures.store)
