@@ -6,8 +6,8 @@ all tests are run unproved (tests.py), the verdicts that aren't known any more a
 that need no program; behind it those that do. --all takes no verdict as known, and writes verdicts.txt anew. --quick
 proves next to nothing: quick.py says what it does.
 
-The last line is 'N passed, M failed', of all that was tried, and where verdicts were taken from the record
-', K skipped': so many.
+What failed is told where it was tried, and once more at the end, with the last lines that say so. The last line is
+'N passed, M failed', of all that was tried, and where verdicts were taken from the record ', K skipped': so many.
 """
 import os
 import re
@@ -30,6 +30,8 @@ COUNTS = re.compile(r"(\d+) passed, (\d+) failed(?:, (\d+) skipped)?")
 # A library is there once it is proved, or given by an earlier run that proved the same files on this machine.
 PROVED = re.compile(r"rt: (\w+) (?:proved|is kept: .*)")
 PROGRAMS = ("van", "vanlab", "mailbox")
+# Lines that tell of no failure, and how many of the others are told once more.
+WELL, AGAIN = re.compile(r": (refused|proved|tried)\b|: a check of |^\w+: modules|^statements |^logic=proved"), 20
 PRINTING = threading.Lock()
 
 
@@ -69,16 +71,20 @@ class Gate:
 
     def __init__(self, run, words):
         self.run, self.words, self.counts, self.times = run, words, [0, 0, 0], f"{run}/times"
+        self.failures = []
 
-    def count(self, name, last, status):
-        """Adds what a command's last line says, or else its status. What fails without a count is one failure."""
-        found = COUNTS.fullmatch(last)
+    def count(self, name, said, status):
+        """Adds what the last of a command's lines says, or else its status. What fails without a count is one failure."""
+        found = COUNTS.fullmatch(said[-1])
         passed, failed, skipped = (int(it or 0) for it in found.groups()) if found else (int(status == 0), 0, 0)
         failed = failed or int(status != 0)
         if failed:
             say(f"failed: {name}")
         with PRINTING:
             self.counts = [a + b for a, b in zip(self.counts, (passed, failed, skipped))]
+            if failed:
+                lines = [it for it in said if it.strip() and not WELL.search(it)]
+                self.failures += [f"failed: {name}, status {status}", *[f"  {it[:300]}" for it in lines[-AGAIN:]]]
 
     def start(self, kind, folder, words, nice):
         """Starts a command in a folder, and has its processor time counted."""
@@ -92,14 +98,14 @@ class Gate:
 
         RT_JOBS says how many proofs run side by side: by itself `rt ci` wants four times the memory that they take."""
         os.environ["RT_JOBS"] = str(lanes)
-        running, last = self.start("-", f"{self.run}/top", ["rt", "ci"], 0), ""
+        running, said = self.start("-", f"{self.run}/top", ["rt", "ci"], 0), [""]
         for line in running.stdout:
-            last = line.rstrip("\n")
-            found = PROVED.fullmatch(last)
+            said.append(line.rstrip("\n"))
+            found = PROVED.fullmatch(said[-1])
             if found:
                 open(f"{self.run}/proved/{found[1]}", "w", encoding="utf-8").close()
-            say(last)
-        self.count("rt ci", last, running.wait())
+            say(said[-1])
+        self.count("rt ci", said, running.wait())
         open(f"{self.run}/proved/.ended", "w", encoding="utf-8").close()
 
     def check(self, name, folder, nice):
@@ -109,14 +115,14 @@ class Gate:
         running = self.start(kind, folder, [f"checks/{name}", *words], nice)
         said = running.communicate()[0].rstrip("\n")
         say(f"== {name}\n{said}")
-        self.count(name, said.split("\n")[-1], running.returncode)
+        self.count(name, said.split("\n"), running.returncode)
 
     def check_programs(self, name):
         """Runs a script over the proved programs, where they are there."""
         if all(os.path.isfile(f"{self.run}/top/crates/{it}/out/{it}") for it in PROGRAMS):
             self.check(name, f"{self.run}/top", 0)
         else:
-            self.count(f"{name}, since the programs aren't proved", "", 1)
+            self.count(f"{name}, since the programs aren't proved", [""], 1)
 
     def lane(self, names):
         for name in names:
@@ -127,9 +133,9 @@ class Gate:
         for name in sorted(os.listdir(f"{TOP}/checks")):
             listed = [*sum(BESIDE, []), *BEHIND, *LAST, *NOT_RUN]
             if os.path.isfile(f"{TOP}/checks/{name}") and not name.endswith(".txt") and name not in listed:
-                self.count(f"checks/{name}, which isn't in the list of what ./test runs", "", 1)
+                self.count(f"checks/{name}, which isn't in the list of what ./test runs", [""], 1)
             elif name in listed and not os.access(f"{TOP}/checks/{name}", os.X_OK):
-                self.count(f"checks/{name}, which may not be executed", "", 1)
+                self.count(f"checks/{name}, which may not be executed", [""], 1)
         beside = [threading.Thread(target=self.lane, args=[it]) for it in BESIDE]
         for it in beside:
             it.start()
@@ -150,11 +156,12 @@ class Gate:
             shutil.copy2(f"{self.run}/top/crates/{name}/out/{name}", f"{TOP}/crates/{name}/out/{name}")
 
     def tell(self):
-        """Tells the times beside those that were landed, and the counts."""
+        """Tells the times beside those that were landed, what failed, and the counts."""
         os.makedirs(f"{TOP}/out", exist_ok=True)
         shutil.copyfile(self.times, f"{TOP}/out/times.txt")
         subprocess.run([sys.executable, "-B", f"{HERE}/times.py", "tell", self.times, f"{TOP}/checks/budget.txt"], check=False)
         passed, failed, skipped = self.counts
+        print("\n".join(self.failures), end="\n" * bool(self.failures))
         if skipped:
             print(f"{skipped} verdicts stand in checks/verdicts.txt: what they depend on is as it was, and they weren't tried again")
         print(f"{passed} passed, {failed} failed" + (f", {skipped} skipped" if skipped else ""))
