@@ -153,6 +153,11 @@ def groups_of(edits):
     return groups
 
 
+def shared(source, target):
+    """Copies a file of what a check kept: a module that was checked, which no check writes again, as a link."""
+    (os.link if source.endswith(".oantt") else shutil.copy2)(source, target)
+
+
 class Kept:
     """What a crate's first check kept of what is proved, and the edits that stood in its text; no edits, no work."""
 
@@ -169,7 +174,7 @@ class Kept:
     def copy(self):
         """A folder for one more check, which begins with what the first one kept; none, where that is nothing."""
         with tempfile.TemporaryDirectory(prefix="kept-") as room:
-            yield shutil.copytree(self.folder, f"{room}/kept") if self.edits else None
+            yield shutil.copytree(self.folder, f"{room}/kept", copy_function=shared) if self.edits else None
 
 
 def check(edits, texts, folder=None):
@@ -269,7 +274,8 @@ def try_edits(edits, kept, lanes):
     """Tries the edits of a crate: the largest group first, then the others side by side, and what is left alone."""
     groups = sorted(groups_of(edits), key=len, reverse=True)
     if groups and groups[0][0].functions:
-        lanes.submit(try_first, groups.pop(0), kept).result()
+        first = groups.pop(0)
+        lanes.submit(try_first if groups else try_group, first, kept).result()
     list(lanes.map(lambda it: try_group(it, kept), groups))
     list(lanes.map(lambda it: try_alone(it, kept), [it for it in edits if not it.verdict]))
 

@@ -26,7 +26,7 @@ WHEN = {"refused", "fault", "err", "exhausted", "not_new", "other", "others", "o
         "store", "memory", "outline", "read", "unreadable", "too_long", "fits", "bad_line"}
 LEFT = {"unchanged", "back", "same", "front", "crash", "disk", "answered", "never_won_back", "goes_on", "was_clean", "answers",
         "clean", "asked", "nodes", "written", "plan", "moves", "no_replies", "no_lines", "stopped", "nothing_printed", "nothing_told",
-        "unsent", "unsettled", "undrafted", "unnamed", "unkept", "unsure", "reserved", "survives", "mode", "hub", "lost", "err"}
+        "asks_none", "unsent", "unsettled", "undrafted", "unnamed", "unkept", "unsure", "reserved", "survives", "mode", "hub", "lost", "err"}
 # Where no clause says when: what shows it.
 SHOWN = {
     "x12_inspect": "`checks/van.sh`",

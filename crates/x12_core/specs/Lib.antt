@@ -9,4 +9,5 @@ pub mod Submission
 pub mod StationAsk
 pub mod HubAsk
 pub mod Core
+pub mod Bound
 pub mod Fault

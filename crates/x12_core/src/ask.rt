@@ -4,6 +4,7 @@ ghost use Rattle.std.specs.Prelude.{◌≡◌, ℕ, IfNone, IfSome, Some, None, 
 ghost use Rattle.std.specs.Prelude.{option_and_then};
 ghost use Rattle.x12_core.specs.declared.packet.Site.{Site};
 ghost use Rattle.x12_core.specs.Ask.{does_at, is_for, suits, fate_told, bytes_of_ask, row_of_ask};
+ghost use Rattle.x12_core.specs.Bound.{ask_bound, hub_bound, mailbox_bound, station_bound};
 ghost use Rattle.x12_core.specs.Effect.{comes_to_hub, comes_to_station};
 ghost use Rattle.x12_core.specs.HubAsk.{brought, hub_effect};
 ghost use Rattle.x12_core.specs.Node.{IsHub, IsStation};
@@ -11,8 +12,10 @@ ghost use Rattle.x12_core.specs.StationAsk.{ask_effect, ask_row};
 ghost use Rattle.x12_core.specs.Packet.{carried};
 ghost use Rattle.x12_core.specs.View.{ask_view, load_view};
 ghost use Rattle.x12_hub.specs.Hub.{Hub};
+ghost use Rattle.x12_hub.specs.HubView.{HubMemory};
 ghost use Rattle.x12_profile.specs.X12.{x12};
 ghost use Rattle.x12_station.specs.Fault.{arrival_fault};
+ghost use Rattle.x12_station.specs.Seen.{StationMemory};
 ghost use Rattle.x12_station.specs.Station.{Station};
 
 use crate::hub_ask::HubAsk;
@@ -100,6 +103,8 @@ pub(crate) fn of_station<'a>(ask: &'a Ask) -> Option<StationAsk<'a>>
         does_at x12 i (ask_view ask.now) (IsStation s) ≡ ask_effect i a s) }
     ensures row { IfSome result (λ a. (s : Station) →
         row_of_ask (ask_view ask.now) s ≡ ask_row a s) }
+    ensures bound { IfSome result (λ a. (m : StationMemory) →
+        station_bound ask.now m ≡ ask_bound a m) }
     ensures some { IfSome result (λ a. (i : ℕ) (s : Station) →
         suits i (ask_view ask.now) (IsStation s) ≡ true) }
     ensures none { IfNone result ((i : ℕ) (s : Station)
@@ -125,6 +130,7 @@ impl<'a> StationAsk<'a> {
             comes_to_station x12 i from at s (load_view load.now) ≡ ask_effect i a s) }
         ensures row { IfSome result (λ a. (s : Station) →
             option_and_then (arrival_fault s) (carried (load_view load.now)) ≡ ask_row a s) }
+        ensures bound { IfSome result (λ a. (m : StationMemory) → ask_bound a m ≡ 2) }
         ensures some { IfSome result (λ a. (s : Station) →
             is_for (load_view load.now) (Some (IsStation s)) ≡ true) }
         ensures none { IfNone result ((s : Station) →
@@ -144,6 +150,7 @@ impl<'a> HubAsk<'a> {
         ensures effect { (i : ℕ) (h : Hub) →
             comes_to_hub x12 i from at h (load_view load.now) ≡ hub_effect i result h }
         ensures bytes { carried (load_view load.now) ≡ brought result }
+        ensures bound { (m : HubMemory) → mailbox_bound result m ≡ 2 }
     {
         match load {
             Load::Deposit(bytes) => HubAsk::Deposit(from, bytes, at),
@@ -159,6 +166,8 @@ pub(crate) fn of_hub<'a>(hub: u16, ask: &'a Ask) -> Option<HubAsk<'a>>
     ensures effect { IfSome result (λ a. (i : Site) (h : Hub) →
         does_at x12 i (ask_view ask.now) (IsHub h) ≡ hub_effect i.node a h) }
     ensures bytes { IfSome result (λ a. bytes_of_ask (ask_view ask.now) ≡ brought a) }
+    ensures bound { IfSome result (λ a. (m : HubMemory) →
+        hub_bound ask.now m ≡ mailbox_bound a m) }
     ensures some { IfSome result (λ a. (h : Hub) →
         suits hub (ask_view ask.now) (IsHub h) ≡ true) }
     ensures none { IfNone result ((h : Hub) → suits hub (ask_view ask.now) (IsHub h) ≡ false) }

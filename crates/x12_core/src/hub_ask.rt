@@ -1,7 +1,8 @@
 //! What a hub is asked, and what it sends then.
 
-ghost use Rattle.std.specs.Prelude.{◌≡◌, [], ◌∷◌, IsTrue, IfOk, IfErr, OnErr, Some};
+ghost use Rattle.std.specs.Prelude.{◌≡◌, ◌≤◌, [], ◌∷◌, IsTrue, IfOk, IfErr, OnErr, Some, length};
 ghost use Rattle.x12_hub.specs.Record.{decision_view};
+ghost use Rattle.x12_core.specs.Bound.{mailbox_bound};
 ghost use Rattle.x12_core.specs.Effect.{refusals, reports_taken};
 ghost use Rattle.x12_core.specs.Fault.{CountsCore};
 ghost use Rattle.x12_core.specs.HubAsk.{hub_effect, IsHubRefusal, brought};
@@ -87,6 +88,8 @@ pub fn ask_hub<H: HubRecords>(
     ensures refused { IsTrue hub.new.answers →
         IfErr result (IsHubRefusal hub.old.hub (brought ask.now)) }
     ensures unchanged { IsTrue hub.new.answers → OnErr result (hub.new.hub ≡ hub.old.hub) }
+    ensures bounded { IfOk result (λ sends.
+        length (sends_view sends) ≤ mailbox_bound ask.now hub.old.memory) }
     ensures store { CountsCore result hub.old.failures hub.new.failures }
 {
     match ask {

@@ -3,6 +3,7 @@
 ghost use Rattle.std.specs.Prelude.{◌≡◌, ◌≤◌, ℕ, IsTrue, IfErr, IfOk, OnErr, Some, length};
 ghost use Rattle.x12_core.specs.declared.packet.Site.{Site};
 ghost use Rattle.x12_core.specs.Ask.{does_at};
+ghost use Rattle.x12_core.specs.Bound.{core_bound, hub_bound, station_bound, SendsAtMost};
 ghost use Rattle.x12_core.specs.Core.{core_answers, core_failures, node_of, Did, IsCoreRefusal};
 ghost use Rattle.x12_core.specs.Fault.{CountsCore};
 ghost use Rattle.x12_core.specs.Effect.{Effect};
@@ -50,6 +51,7 @@ fn tell<R: Records>(station: &mut Station<R>, ask: &Ask, key: &SetKey) -> Result
         IsCoreRefusal node (ask_view ask.now) (IsStation station.old.state) f) }
     ensures unchanged { IsTrue station.new.answers →
         station.new.state ≡ station.old.state }
+    ensures bounded { (most : ℕ) → IfOk result (SendsAtMost most) }
     ensures store { CountsCore result station.old.failures station.new.failures }
 {
     Ok(Answer::Fate(station.fate(key)?))
@@ -69,6 +71,7 @@ fn apply_to_station<R: Records>(
         (IsCoreRefusal site.node (ask_view ask.now) (IsStation station.old.state)) }
     ensures unchanged { IsTrue station.new.answers →
         OnErr result (station.new.state ≡ station.old.state) }
+    ensures bounded { IfOk result (SendsAtMost (station_bound ask.now station.old.memory)) }
     ensures store { CountsCore result station.old.failures station.new.failures }
 {
     if let Ask::Fate { key } = ask {
@@ -88,6 +91,7 @@ fn apply_to_hub<H: HubRecords>(hub: &mut Hub<H>, site: Site, ask: &Ask) -> Resul
     ensures refused { IsTrue hub.new.answers →
         IfErr result (IsCoreRefusal site.node (ask_view ask.now) (IsHub hub.old.hub)) }
     ensures unchanged { IsTrue hub.new.answers → OnErr result (hub.new.hub ≡ hub.old.hub) }
+    ensures bounded { IfOk result (SendsAtMost (hub_bound ask.now hub.old.memory)) }
     ensures store { CountsCore result hub.old.failures hub.new.failures }
 {
     match of_hub(site.node, ask) {
@@ -98,7 +102,8 @@ fn apply_to_hub<H: HubRecords>(hub: &mut Hub<H>, site: Site, ask: &Ask) -> Resul
 
 impl<R: Records, H: HubRecords> Core<R, H> {
     /// Does what the node of this site, which this core is, is asked: one step of it, or it tells a
-    /// fate. What this promises holds while the core's records answer.
+    /// fate. What this promises of the step holds while the core's records answer; it never sends more
+    /// packets than [`Core::bound`] told before, whether they answer or not.
     ///
     /// L7, L4 and L3, the first that holds; the node is then as it was.
     pub fn apply(&mut self, alloc: Global, site: Site, ask: &Ask) -> Result<Answer, CoreFault>
@@ -109,6 +114,7 @@ impl<R: Records, H: HubRecords> Core<R, H> {
             IfErr result (IsCoreRefusal site.node (ask_view ask.now) (node_of self.old)) }
         ensures unchanged { IsTrue (core_answers self.new) →
             OnErr result (node_of self.new ≡ node_of self.old) }
+        ensures bounded { IfOk result (SendsAtMost (core_bound ask.now self.old)) }
         ensures store { CountsCore result (core_failures self.old) (core_failures self.new) }
     {
         match self {
@@ -117,9 +123,11 @@ impl<R: Records, H: HubRecords> Core<R, H> {
         }
     }
 
-    /// How many packets the node sends at most, where it is asked so.
+    /// How many packets the node sends at most, where it is asked so: at a tick those that are open,
+    /// at a collection those that wait, and else two.
     pub fn bound(&self, ask: &Ask) -> usize
-        ensures { IsTrue (core_answers self.now) → (i : Site) (e : Effect) →
+        ensures is { result ≡ core_bound ask.now self.now }
+        ensures does { IsTrue (core_answers self.now) → (i : Site) (e : Effect) →
             does_at x12 i (ask_view ask.now) (node_of self.now) ≡ Some e → length e.sends ≤ result }
     {
         match self {

@@ -1,9 +1,10 @@
 //! What a station is asked, and what it sends then.
 
-ghost use Rattle.std.specs.Prelude.{◌≡◌, ◌∷◌, [], IsTrue, IfOk, IfErr, OnErr, Some};
+ghost use Rattle.std.specs.Prelude.{◌≡◌, ◌≤◌, ◌∷◌, [], IsTrue, IfOk, IfErr, OnErr, Some, length};
 ghost use Rattle.std.specs.Prelude.{option_to_list};
 ghost use Rattle.x12_inbound.specs.Filing.{reply_bytes};
 ghost use Rattle.x12_judge.specs.Agreement.{agreement_view};
+ghost use Rattle.x12_core.specs.Bound.{ask_bound};
 ghost use Rattle.x12_core.specs.StationAsk.{ask_effect, ask_row, IsAskRefusal};
 ghost use Rattle.x12_core.specs.Effect.{deposits, reports_taken};
 ghost use Rattle.x12_core.specs.Fault.{CountsCore};
@@ -98,6 +99,8 @@ pub fn ask_station<R: Records>(
         IfErr result (IsAskRefusal (ask_row ask.now station.old.state)) }
     ensures unchanged { IsTrue station.new.answers →
         OnErr result (station.new.state ≡ station.old.state) }
+    ensures bounded { IfOk result (λ sends.
+        length (sends_view sends) ≤ ask_bound ask.now station.old.memory) }
     ensures store { CountsCore result station.old.failures station.new.failures }
 {
     match ask {

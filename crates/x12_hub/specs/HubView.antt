@@ -1,5 +1,5 @@
 -- What is seen of a hub that runs over records, and what each call keeps of it.
-use Rattle.std.specs.Prelude.{◌≡◌, ℕ, Bool, List, IsTrue, ◌⊎◌, Result, OnErr, OnOk}
+use Rattle.std.specs.Prelude.{◌≡◌, ℕ, Bool, ◌==◌, ◌&&◌, nat_le, List, filter, length, IsTrue, ◌⊎◌, Result, OnErr, OnOk}
 use Rattle.x12_hub.specs.declared.fault.HubFault.{HubFault}
 use Rattle.x12_hub.specs.declared.fault.HubFault.TheVariants.{Store, Memory}
 use Rattle.x12_hub.specs.Hub.{Hub, Mailbox}
@@ -14,6 +14,10 @@ pub record HubMemory : Type 0 where
   pub item : ℕ
   pub directory : List Mailbox
   pub waiting : List WaitingItem
+
+-- how many items memory has for a node, up to the last item number
+abbrev pub waiting_for : HubMemory → ℕ → ℕ
+waiting_for m node = length (filter (λ w. (w.node == node) && nat_le w.item m.item) m.waiting)
 
 -- the records; the hub as they hold it; whether they have returned what was written, and answer;
 -- whether their disk has returned what was written; how often their device has failed; and what is in

@@ -15,6 +15,14 @@ pub record HubLeavesNoMore {H : Type 0} (g : Ghosts H) (old new : H) : Type 0 wh
   pub was_clean : IsTrue (g.clean new) → IsTrue (g.clean old)
   pub left : IsTrue (g.clean new) → (d : HubStored) → g.may_leave new d → g.may_leave old d
 
+-- records that were asked: they hold what they held, and answered if they do; and a stop leaves no
+-- more than before
+pub record HubWereAsked {H : Type 0} (g : Ghosts H) (old new : H) : Type 0 where
+  pub valid : g.valid new
+  pub never_won_back : IsTrue (g.answers new) → IsTrue (g.answers old)
+  pub same : IsTrue (g.answers new) → g.content new ≡ g.content old
+  pub leaves : HubLeavesNoMore g old new
+
 -- Records to which a plan was written, or should have been: they are valid, and whose they were. Over a clean disk an Ok
 -- comes of records that answer, and a stop leaves what it might have left before, or that with the
 -- plan committed, which is a hub's as what was left.

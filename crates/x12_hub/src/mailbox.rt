@@ -1,12 +1,12 @@
 //! What waits in the hub's mailboxes.
 
-ghost use Rattle.std.specs.Prelude.{◌≡◌, ◌==◌, ◌&&◌, nat_le, map, filter, length};
+ghost use Rattle.std.specs.Prelude.{◌≡◌, ◌≤◌, ◌==◌, ◌&&◌, nat_le, map, filter, length};
 ghost use Rattle.std.specs.Prelude.{IsTrue, IfOk, IfErr, OnOk, OnErr, Some};
 ghost use Rattle.std.specs.List.{list_any};
 ghost use Rattle.x12_hub.specs.Hub.{collect, taken};
 ghost use Rattle.x12_hub.specs.Mailbox.{item_view, with_bytes};
-ghost use Rattle.x12_hub.specs.HubView.{GoesOn, FailsToStore};
-ghost use Rattle.x12_hub.specs.Standing.{HubLeavesNoMore};
+ghost use Rattle.x12_hub.specs.HubView.{GoesOn, FailsToStore, waiting_for};
+ghost use Rattle.x12_hub.specs.Standing.{HubWereAsked};
 ghost use Rattle.x12_hub.specs.Stopped.{HubLeavesAsBefore, HubLeavesWhole};
 ghost use Rattle.x12_hub.specs.declared.fault.HubFault.{HubFault};
 ghost use Rattle.x12_profile.specs.Stop.{CountsFailures};
@@ -27,17 +27,14 @@ fn with_bytes<H: HubRecords>(
     items: &[u32],
 ) -> Result<Vec<(u32, Vec<u8>)>, HubFault>
     requires valid { H.valid records.old }
-    ensures valid { H.valid records.new }
-    ensures never_won_back { (IsTrue (H.answers records.new) → IsTrue (H.answers records.old))
-        × CountsFailures result (λ e. e ≡ HubFault.Store)
-        (H.failed records.old) (H.failed records.new) }
-    ensures same { IsTrue (H.answers records.new) →
-        H.content records.new ≡ H.content records.old }
+    ensures asked { HubWereAsked H.HubRecords records.old records.new }
     ensures items { IsTrue (H.answers records.new) → IfOk result (λ v.
         map item_view v.items ≡ with_bytes (H.content records.old).decisions items.now) }
-    ensures crash { HubLeavesNoMore H.HubRecords records.old records.new }
+    ensures bounded { IfOk result (λ v. length v.items ≤ length items.now) }
     ensures answered { IsTrue (H.clean records.new) →
         OnOk result (IsTrue (H.answers records.old) → IsTrue (H.answers records.new)) }
+    ensures device { CountsFailures result (λ e. e ≡ HubFault.Store)
+        (H.failed records.old) (H.failed records.new) }
     ensures fault { IfErr result (FailsToStore (H.failed records.old) (H.failed records.new)) }
 {
     let mut found = Vec::new(alloc);
@@ -66,14 +63,14 @@ impl<H: HubRecords> Hub<H> {
     /// How many items wait in the mailbox of a node.
     pub fn waiting(&self, node: u16) -> usize
         ensures items { IsTrue self.now.answers → result ≡ length (collect self.now.hub node) }
-        ensures remembers { let m = self.now.memory in
-            result ≡ length (filter (λ w. (w.node == node) && nat_le w.item m.item) m.waiting) }
+        ensures remembers { result ≡ waiting_for self.now.memory node }
     {
         count_at(&self.cached.mailboxes, node, self.cached.item)
     }
 
     /// What waits in the mailbox of a node, by rising item number: each item with its bytes. The
-    /// items stay there until they are [taken](Hub::taken). B3, B4.
+    /// items stay there until they are [taken](Hub::taken). There are never more than
+    /// [`Hub::waiting`] tells, whether the records answer or not. B3, B4.
     pub fn collect(&mut self, node: u16) -> Result<Vec<(u32, Vec<u8>)>, HubFault>
         ensures goes_on { GoesOn result self.old self.new }
         ensures crash { HubLeavesAsBefore H.HubRecords self.old self.new }
@@ -81,6 +78,7 @@ impl<H: HubRecords> Hub<H> {
         ensures remembers { self.new.memory ≡ self.old.memory }
         ensures items { IsTrue self.new.answers → IfOk result (λ v.
             map item_view v.items ≡ collect self.old.hub node) }
+        ensures bounded { IfOk result (λ v. length v.items ≤ waiting_for self.old.memory node) }
         ensures fault { IfErr result
             (FailsToStore self.old.failures self.new.failures) }
     {

@@ -14,7 +14,7 @@ use crate::group::is_number;
 use x12_envelopes::{Header, Outline, OutlineFault, Party, is_date, is_time, number_of};
 
 /// An interchange that was read, or the fault that ended its reading.
-pub(crate) type Reading<'a> = Result<Outline<'a>, OutlineFault>;
+pub type Reading<'a> = Result<Outline<'a>, OutlineFault>;
 
 /// Whether a version of the interchange controls is supported: 00200 to 00401.
 fn is_supported(version: &[u8]) -> bool

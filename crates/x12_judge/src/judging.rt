@@ -6,7 +6,7 @@ ghost use Rattle.std.specs.List.{All, enumerate_from};
 ghost use Rattle.x12_envelopes.specs.Header.{header_of};
 ghost use Rattle.x12_envelopes.specs.Shape.{group_view};
 ghost use Rattle.x12_judge.specs.Agreement.{agreement_view};
-ghost use Rattle.x12_judge.specs.Bound.{IsSmall, IsSmallGroup};
+ghost use Rattle.x12_judge.specs.Bound.{IsReadOf, IsSmall, IsSmallGroup};
 ghost use Rattle.x12_judge.specs.Group.{verdict_of_group};
 ghost use Rattle.x12_judge.specs.Interchange.{reading_view};
 ghost use Rattle.x12_judge.specs.Laws.{IsSmallVerdict};
@@ -101,15 +101,35 @@ fn group_verdicts<'a>(
     }
 }
 
-/// What an interchange deserves, by its outline or the fault that ended its reading.
-fn judge_reading<'a>(
+/// Reads an interchange, once for all that is to be found of it: its outline, or the fault that ends
+/// its reading. The header is that of the bytes, as `read_header` gives it. Answers an error for want
+/// of memory alone.
+pub fn read_interchange<'a>(
+    alloc: Global,
+    bytes: &'a [u8],
+    header: &Header,
+) -> Result<Reading<'a>, AllocError>
+    requires read { header_of bytes.now ≡ Ok header.now }
+    ensures { IfOk result (λ r. IsReadOf bytes.now header.now r) }
+{
+    let reading = outline(alloc, bytes, header);
+    if is_memory_fault(&reading) {
+        return Err(AllocError);
+    }
+    Ok(reading)
+}
+
+/// What an interchange deserves at this station, under these agreements, by what was read of it, as
+/// `read_interchange` gives it: refused with a note (X12.5, TA105), or judged group by group (997).
+/// Answers an error for want of memory alone.
+pub fn judge_reading<'a>(
     alloc: Global,
     me: &Party,
     agreements: &[Agreement],
     header: &Header,
     reading: &Reading<'a>,
 ) -> Result<Judgement<'a>, AllocError>
-    requires { IfOk reading.now IsSmall }
+    requires small { IfOk reading.now IsSmall }
     ensures { let ags = map agreement_view agreements.now in
         let read = reading_view header.now.delims reading.now in
         IfOk result (λ j. judgement_view j ≡ judgement_by me.now ags header.now read) }
@@ -145,9 +165,6 @@ pub fn judge<'a>(
         IfOk result (λ j. judgement_view j ≡ judgement_of me.now ags header.now bytes.now) }
     ensures small { IfOk result (λ j. IsSmallVerdict (judgement_view j).verdict) }
 {
-    let reading = outline(alloc, bytes, header);
-    if is_memory_fault(&reading) {
-        return Err(AllocError);
-    }
+    let reading = read_interchange(alloc, bytes, header)?;
     judge_reading(alloc, me, agreements, header, &reading)
 }

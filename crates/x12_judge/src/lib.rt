@@ -18,7 +18,8 @@ mod verdict;
 
 pub use agreement::Agreement;
 pub use element::{ElementRule, Form, element_rules};
-pub use judging::judge;
+pub use interchange::Reading;
+pub use judging::{judge, judge_reading, read_interchange};
 pub use laws::{judged_is_read, judgements_are_small, notes_rise};
 pub use verdict::{
     ElementCode, GroupRefusal, GroupVerdict, Judgement, Note, SegmentCode, SetCode, SetCodes,

@@ -1,17 +1,20 @@
 -- What each function of the profile is, of bytes whose header can be read under these fields. Nothing else unfolds it.
 use Rattle.std.specs.Prelude.{◌≡◌, ℕ, List, [], ◌∷◌, ◌++◌, true, false, flat_map, Result, Ok, Err, is_some, refl, IsTrue}
+use mathlib.Core.Path.{ap}
 use Rattle.x12_envelopes.specs.declared.header.Header.{Header}
 use Rattle.x12_envelopes.specs.declared.header.HeaderFault.{HeaderFault}
 use Rattle.x12_envelopes.specs.declared.moment.Moment.{Moment}
 use Rattle.x12_envelopes.specs.declared.party.Party.{Party}
+use Rattle.x12_envelopes.specs.declared.shape.Outline.{Outline}
 use Rattle.x12_envelopes.specs.declared.shape.OutlineFault.{OutlineFault}
 use Rattle.x12_envelopes.specs.Header.{header_of}
 use Rattle.x12_envelopes.specs.Envelope.{written}
 use Rattle.x12_envelopes.specs.Outline.{outline_of}
 use Rattle.x12_envelopes.specs.Shape.{Interchange}
 use Rattle.x12_judge.specs.Agreement.{TradingAgreement}
-use Rattle.x12_judge.specs.Interchange.{reading_is_silent}
-use Rattle.x12_judge.specs.Verdict.{judgement_of}
+use Rattle.x12_judge.specs.Bound.{IsReadOf}
+use Rattle.x12_judge.specs.Interchange.{reading_is_silent, reading_view}
+use Rattle.x12_judge.specs.Verdict.{judgement_by, judgement_of}
 use Rattle.x12_acks.specs.Accepted.{accepted_by_verdict}
 use Rattle.x12_acks.specs.Answer.{answers_of}
 use Rattle.x12_acks.specs.Evidence.{evidence_of}
@@ -28,6 +31,12 @@ use Rattle.x12_profile.specs.X12.{x12, accepted_in, result_at, group_numbers, is
 -- by the one edition
 pub is_first : (ed : Edition) (me : Party) (a : List TradingAgreement) (h : Header) (b : Bytes) → judged_by ed me a h b ≡ judgement_of me a h b
 is_first First me a h b = refl
+
+-- what was read of bytes says what they deserve
+pub judged_as_read : (ed : Edition) (me : Party) (a : List TradingAgreement) (h : Header) (b : Bytes) (r : Result Outline OutlineFault)
+    → IsReadOf b h r → judgement_by me a h (reading_view h.delims r) ≡ judged_by ed me a h b
+unfolding judgement_of
+judged_as_read First me a h b r read = ap (judgement_by me a h) read.is
 
 -- bytes with a header
 pub header_known : (b : Bytes) → IsTrue (x12.has_header b) → (h : Header) × (header_of b ≡ Ok h)

@@ -1,15 +1,15 @@
 //! The edition of the rules by which a station judges and reads an arrival.
 
-ghost use Rattle.std.specs.Prelude.{◌≡◌, ◌+◌, IfOk, Ok, map};
-ghost use Rattle.x12_envelopes.specs.Header.{header_of};
+ghost use Rattle.std.specs.Prelude.{◌≡◌, ℕ, ◌+◌, List, IfOk, map};
 ghost use Rattle.x12_judge.specs.Agreement.{agreement_view};
+ghost use Rattle.x12_judge.specs.Bound.{IsReadOf, IsSmall};
 ghost use Rattle.x12_judge.specs.Verdict.{judgement_view};
 ghost use Rattle.x12_profile.specs.Edition.{edition_at};
 ghost use Rattle.x12_profile.specs.X12.{judged_by};
 
 use std::alloc::{AllocError, Global};
 use x12_envelopes::{Header, Party};
-use x12_judge::{Agreement, Judgement, judge};
+use x12_judge::{Agreement, Judgement, Reading, judge_reading};
 
 /// An edition of the rules by which a station judges and reads an arrival. There is one so far.
 #[derive(Clone, Copy)]
@@ -33,23 +33,23 @@ impl Edition {
         Edition::First
     }
 
-    /// What an interchange deserves at this station, under these agreements, by this edition. The
-    /// header is that of the bytes, as `read_header` gives it. Answers an error for want of memory
-    /// alone.
+    /// What an interchange deserves at this station, under these agreements, by this edition: by
+    /// what was read of it, as `read_interchange` gives it. Answers an error for want of memory alone.
     pub fn judge<'a>(
         self,
         alloc: Global,
         me: &Party,
         agreements: &[Agreement],
-        bytes: &'a [u8],
         header: &Header,
+        reading: &Reading<'a>,
     ) -> Result<Judgement<'a>, AllocError>
-        requires read { header_of bytes.now ≡ Ok header.now }
-        ensures { let ags = map agreement_view agreements.now in IfOk result (λ j.
-            judgement_view j ≡ judged_by self me.now ags header.now bytes.now) }
+        requires small { IfOk reading.now IsSmall }
+        ensures { (bytes : List ℕ) → IsReadOf bytes header.now reading.now →
+            let ags = map agreement_view agreements.now in IfOk result (λ j.
+            judgement_view j ≡ judged_by self me.now ags header.now bytes) }
     {
         match self {
-            Edition::First => judge(alloc, me, agreements, bytes, header),
+            Edition::First => judge_reading(alloc, me, agreements, header, reading),
         }
     }
 }

@@ -1,5 +1,5 @@
 -- An arrival's step, by what is filed: other bytes under a filed number.
-use Rattle.std.specs.Prelude.{◌≡◌, ◌≢◌, ℕ, ◌+◌, All, Bool, true, false, List, Some, None, Err, Ok, IsTrue, if◌then◌else◌, refl, option_to_list}
+use Rattle.std.specs.Prelude.{◌≡◌, ℕ, ◌+◌, All, Bool, true, false, List, Some, None, Err, Ok, IsTrue, if◌then◌else◌, refl, option_to_list}
 use mathlib.Core.Path.{sym, ap, ap₂, subst, ◌∙◌}
 use native.Mathlib.Omega.{arith}
 use Rattle.x12_numbers.specs.Book.{Numbers}
@@ -7,11 +7,9 @@ use Rattle.x12_envelopes.specs.declared.header.Header.{Header}
 use Rattle.x12_envelopes.specs.declared.moment.Moment.{Moment}
 use Rattle.x12_envelopes.specs.declared.party.Party.{Party}
 use Rattle.x12_envelopes.specs.declared.shape.OutlineFault.{OutlineFault}
-use Rattle.x12_envelopes.specs.declared.shape.OutlineFault.TheVariants.{Structure, Premature, Content, Memory}
+use Rattle.x12_judge.specs.Bound.{IsReadOf}
 use Rattle.x12_envelopes.specs.Envelope.{written}
 use Rattle.x12_envelopes.specs.Header.{header_of}
-use Rattle.x12_envelopes.specs.Outline.{outline_of}
-use Rattle.x12_envelopes.specs.Shape.{GivesUnlessMemory, outline_view}
 use Rattle.x12_acks.specs.Reply.{refusal_of}
 use Rattle.x12_outbound.specs.Ledger.{LedgerRow}
 use Rattle.x12_outbound.specs.Hubs.{hubs_of}
@@ -36,16 +34,10 @@ use Rattle.x12_station.proofs.OpenedLemmas.{durable_of}
 use Rattle.x12_station.proofs.DurableLemmas.{IsLater, durable_numbered}
 use Rattle.x12_station.proofs.NotingLemmas.{one_later}
 
--- bytes whose segments can't be read aren't silent
-unread : (b : Bytes) (h : Header) (f : OutlineFault) → header_of b ≡ Ok h → outline_of h.delims b ≡ Err f → false ≡ x12.is_silent b
+-- bytes whose reading ended in a fault aren't silent
+pub unread : (b : Bytes) (h : Header) (f : OutlineFault) → header_of b ≡ Ok h → IsReadOf b h (Err f) → false ≡ x12.is_silent b
 unfolding x12 header_in outline_in
-unread b h f known there = rw (known, there) refl
-
-pub unread_by : (b : Bytes) (h : Header) (f : OutlineFault) → header_of b ≡ Ok h → f ≢ Memory → GivesUnlessMemory (outline_view h.delims) (Err f) (outline_of h.delims b) → false ≡ x12.is_silent b
-unread_by b h (Structure n) known other is = unread b h (Structure n) known is
-unread_by b h (Premature n) known other is = unread b h (Premature n) known is
-unread_by b h (Content n) known other is = unread b h (Content n) known is
-unread_by b h Memory known other is = absurd (other refl)
+unread b h f known read = rw (known, sym read.is) refl
 
 pub if_true : {A : Type 0} (t : Bool) (x y : A) → t ≡ true → (if t then x else y) ≡ x
 if_true true x y is = refl

@@ -25,22 +25,15 @@ use Rattle.x12_station.specs.Stored.{Stored}
 use mathlib.Core.Path.{sym, ap, subst, ◌∙◌}
 use Rattle.x12_envelopes.specs.declared.header.Header.{Header}
 use Rattle.x12_envelopes.specs.declared.shape.OutlineFault.{OutlineFault}
-use Rattle.x12_envelopes.specs.declared.shape.OutlineFault.TheVariants.{Structure, Premature, Content, Memory}
-use Rattle.x12_envelopes.specs.Shape.{GivesUnlessMemory, outline_view}
+use Rattle.x12_judge.specs.Bound.{IsReadOf}
 use Rattle.x12_envelopes.specs.Header.{header_of}
-use Rattle.x12_envelopes.specs.Outline.{outline_of}
 use Rattle.x12_profile.specs.Interchange.{Bytes}
 use Rattle.x12_profile.specs.Reading.{answers_in, header_in}
 
-pub unread : (b : Bytes) (h : Header) (f : OutlineFault) → header_of b ≡ Ok h → outline_of h.delims b ≡ Err f → [] ≡ answers_in b
+-- bytes whose reading ended in a fault answer nothing
+pub unread : (b : Bytes) (h : Header) (f : OutlineFault) → header_of b ≡ Ok h → IsReadOf b h (Err f) → [] ≡ answers_in b
 unfolding header_in
-unread b h f known there = rw (known, there) refl
-
-pub unread_by : (b : Bytes) (h : Header) (f : OutlineFault) → header_of b ≡ Ok h → f ≢ Memory → GivesUnlessMemory (outline_view h.delims) (Err f) (outline_of h.delims b) → [] ≡ answers_in b
-unread_by b h (Structure n) known other is = unread b h (Structure n) known is
-unread_by b h (Premature n) known other is = unread b h (Premature n) known is
-unread_by b h (Content n) known other is = unread b h (Content n) known is
-unread_by b h Memory known other is = absurd (other refl)
+unread b h f known read = rw (known, sym read.is) refl
 
 -- the numbers of one answer more
 pub numbers_more : (s : Stored) (from : Party) (answers : List Acknowledgment) (a : Acknowledgment) (numbers more : List ℕ) → HoldsNumbers s from answers numbers → ((n : ℕ) → Contains numbers n → Contains more n)

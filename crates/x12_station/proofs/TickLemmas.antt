@@ -1,5 +1,5 @@
 -- A tick over a ledger that holds the open submissions: what is sent, and what the schedules are then.
-use Rattle.std.proofs.Common.{ℕ, ◌≡◌, ◌<◌, ◌==◌, ◌∙◌, ap, ap₂, sym, subst, refl, inl, inr, Bool, true, false, cond, Some, List, [], ◌∷◌, map, filter, find, All, AllPairs, arith}
+use Rattle.std.proofs.Common.{ℕ, ◌≡◌, ◌<◌, ◌≤◌, ◌&&◌, ◌==◌, ◌∙◌, ap, ap₂, sym, subst, refl, inl, inr, Bool, true, false, cond, Some, List, [], ◌∷◌, map, filter, find, All, AllPairs, arith}
 use Rattle.std.specs.Prelude.{count_by, flat_map, length, nat_le, if◌then◌else◌, unwrap_or, option_map, Contains}
 use Rattle.std.proofs.lemmas.Bool.Decides.{eqb_tells}
 use Rattle.std.proofs.lemmas.List.{length-map}
@@ -219,3 +219,28 @@ open_is m s caches history =
     count_all (λ (r : LedgerRow). row_is_open r.interchange) m.ledger.holds.rows (is_open_row 0 m (record m.ledger { holds = after_tick 0 m.ledger.holds }) refl s caches history)
     ∙ sym (length-map m.ledger.holds.rows (λ (r : LedgerRow). r.interchange.bytes))
     ∙ ap length (bytes_are 0 m (record m.ledger { holds = after_tick 0 m.ledger.holds }) refl s caches history)
+
+-- what is due is open
+due_open : (t : ℕ) (rows : List LedgerRow) → length (filter (row_is_due t) rows) ≤ length (filter (λ (r : LedgerRow). row_is_open r.interchange) rows)
+due_open t [] = omega arith
+due_open t (r ∷ rows) = by (row_is_open r.interchange) (nat_le r.schedule.due t) (due_open t rows)
+  where
+    due_rows : List LedgerRow
+    due_rows = filter (row_is_due t) rows
+
+    open_rows : List LedgerRow
+    open_rows = filter (λ (x : LedgerRow). row_is_open x.interchange) rows
+
+    by : (is_open is_due : Bool) → length due_rows ≤ length open_rows → length (cond (is_open && is_due) (r ∷ due_rows) due_rows) ≤ length (cond is_open (r ∷ open_rows) open_rows)
+    by true true le = omega arith
+    by true false le = omega arith
+    by false is_due le = le
+
+pub due_bounded : (now : ℕ) (v : OutboundLedger) → length (numbers_due now v) ≤ open_interchanges v
+unfolding numbers_due open_interchanges
+due_bounded now v =
+    let t = tick_seen v.tick now in
+    let due = length-map (filter (row_is_due t) v.rows) (λ (r : LedgerRow). r.interchange.icn) in
+    let all = length-filter (λ (r : LedgerRow). row_is_open r.interchange) v.rows in
+    let le = due_open t v.rows in
+    omega (arith, due, all, le)

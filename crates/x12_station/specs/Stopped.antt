@@ -1,6 +1,6 @@
 -- What a stop leaves of a station, in a call or after it: what it might have left before, or the station
 -- after the call's one step, whole.
-use Rattle.std.specs.Prelude.{◌⊎◌, IsTrue, Option, None, Some}
+use Rattle.std.specs.Prelude.{◌≡◌, ◌⊎◌, IsTrue, Option, None, Some}
 use Rattle.x12_station.specs.declared.records.Records.{Ghosts}
 use Rattle.x12_station.specs.Opened.{HoldsState}
 use Rattle.x12_station.specs.Seen.{StationView}
@@ -29,3 +29,11 @@ pub record LeavesWhole {R : Type 0} (g : Ghosts R) (step : Option StationStep)
 -- the same of a call that writes nothing: a stop leaves no more than before
 abbrev pub LeavesAsBefore : {R : Type 0} → Ghosts R → StationView R → StationView R → Type 0
 LeavesAsBefore g old new = LeavesWhole g None old new
+
+-- a call that asks the records nothing: whether they answer, are clean, and how often they failed is as
+-- it was
+pub record AsksNoRecords {R : Type 0} (g : Ghosts R) (old new : StationView R) : Type 0 where
+  pub answers : new.answers ≡ old.answers
+  pub clean : new.clean ≡ old.clean
+  pub failures : new.failures ≡ old.failures
+  pub left : LeavesAsBefore g old new

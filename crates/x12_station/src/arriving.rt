@@ -41,8 +41,9 @@ use crate::prepared::LAST_ITEM;
 use crate::records::Records;
 use crate::replying::{Draft, drafted};
 use std::alloc::{AllocError, Global};
-use x12_envelopes::{Header, Moment, Outline, OutlineFault, outline};
+use x12_envelopes::{Header, Moment, Outline};
 use x12_inbound::{Arrived, what_is_posted_was_accepted};
+use x12_judge::read_interchange;
 use x12_outbound::{Counts, Settling};
 use x12_profile::{Edition, x12_meets_the_laws};
 
@@ -112,12 +113,9 @@ fn is_silent(alloc: Global, bytes: &[u8], header: &Header) -> Result<bool, Alloc
     requires read { header_of bytes.now ≡ Ok header.now }
     ensures { IfOk result (λ t. t ≡ x12.is_silent bytes.now) }
 {
-    match outline(alloc, bytes, header) {
+    match read_interchange(alloc, bytes, header)? {
         Ok(outline) => Ok(holds_answers_alone(&outline)),
-        Err(fault) => match fault {
-            OutlineFault::Memory => Err(AllocError),
-            _ => Ok(false),
-        },
+        Err(_) => Ok(false),
     }
 }
 
@@ -191,8 +189,9 @@ fn weighed<R: Records>(
 {
     let (alloc, me) = (memory.alloc, &memory.me);
     let edition = Edition::after(memory.seq);
-    let judgement = edition.judge(alloc, me, &memory.agreements, bytes, header)?;
-    let answers = answers_heard(alloc, bytes, header, &judgement)?;
+    let reading = read_interchange(alloc, bytes, header)?;
+    let judgement = edition.judge(alloc, me, &memory.agreements, header, &reading)?;
+    let answers = answers_heard(alloc, header, &reading, &judgement)?;
     let settling = match planned(records, alloc, &memory.ledger, &header.sender, &answers) {
         Ok(settling) => settling,
         Err(fault) => return Err(fault),

@@ -8,6 +8,7 @@ ghost use Rattle.x12_inbound.specs.Posting.{posting_view};
 ghost use Rattle.x12_judge.specs.Agreement.{is_same_party};
 ghost use Rattle.x12_numbers.specs.Book.{new_book};
 ghost use Rattle.x12_outbound.specs.Counts.{only_unclear};
+ghost use Rattle.x12_outbound.specs.Ledger.{open_interchanges};
 ghost use Rattle.x12_profile.specs.X12.{x12};
 ghost use Rattle.x12_station.specs.declared.fault.StationFault.TheVariants.{Store};
 ghost use Rattle.x12_station.specs.Fault.{IsOfRecords};
@@ -114,8 +115,9 @@ impl<R: Records> Station<R> {
 
     /// How many submissions are open: a transaction set of theirs is pending.
     pub fn open_count(&self) -> u64
-        ensures { IsTrue self.now.answers →
+        ensures open { IsTrue self.now.answers →
             result ≡ length (open_submissions x12 self.now.state) }
+        ensures remembers { result ≡ open_interchanges self.now.memory.ledger }
     {
         self.memory.ledger.open_count()
     }

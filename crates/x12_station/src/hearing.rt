@@ -1,7 +1,8 @@
 //! What an arrival answers, and the numbers of the closed submissions that its answers may name.
 
-ghost use Rattle.std.specs.Prelude.{◌≡◌, ◌<◌, Ok, IsTrue, IfOk, IfErr, Some, map, AllPairs};
+ghost use Rattle.std.specs.Prelude.{◌≡◌, ◌<◌, ℕ, List, Ok, IsTrue, IfOk, IfErr, Some, map, AllPairs};
 ghost use Rattle.x12_envelopes.specs.Header.{header_of};
+ghost use Rattle.x12_judge.specs.Bound.{IsReadOf};
 ghost use Rattle.x12_judge.specs.Verdict.{judgement_view};
 ghost use Rattle.x12_acks.specs.Answer.{answer_view};
 ghost use Rattle.x12_outbound.specs.Entry.{InterchangeRow};
@@ -18,37 +19,40 @@ use crate::fault::StationFault;
 use crate::records::{Records, StoreFault};
 use std::alloc::{AllocError, Global};
 use x12_acks::{Answer, read_answers};
-use x12_envelopes::{Header, OutlineFault, Party, outline};
-use x12_judge::{Judgement, Verdict};
+use x12_envelopes::{Header, Party};
+use x12_judge::{Judgement, Reading, Verdict};
 
 /// What an interchange answers; nothing where its segments can't be read.
-fn answers_read(alloc: Global, bytes: &[u8], header: &Header) -> Result<Vec<Answer>, AllocError>
-    requires read { header_of bytes.now ≡ Ok header.now }
-    ensures { IfOk result (λ v. map answer_view v.items ≡ answers_in bytes.now) }
+fn answers_read(
+    alloc: Global,
+    header: &Header,
+    reading: &Reading<'_>,
+) -> Result<Vec<Answer>, AllocError>
+    ensures { (bytes : List ℕ) → header_of bytes ≡ Ok header.now →
+        IsReadOf bytes header.now reading.now →
+        IfOk result (λ v. map answer_view v.items ≡ answers_in bytes) }
 {
-    match outline(alloc, bytes, header) {
-        Ok(outline) => read_answers(alloc, &outline, &header.delims),
-        Err(fault) => match fault {
-            OutlineFault::Memory => Err(AllocError),
-            _ => Ok(Vec::new(alloc)),
-        },
+    match reading {
+        Ok(outline) => read_answers(alloc, outline, &header.delims),
+        Err(_) => Ok(Vec::new(alloc)),
     }
 }
 
-/// What a station hears of an arrival that it judged so: its answers, unless it is refused.
+/// What a station hears of an arrival that it read and judged so: its answers, unless it is refused.
 pub(crate) fn answers_heard(
     alloc: Global,
-    bytes: &[u8],
     header: &Header,
+    reading: &Reading<'_>,
     judgement: &Judgement,
 ) -> Result<Vec<Answer>, AllocError>
-    requires read { header_of bytes.now ≡ Ok header.now }
-    ensures { IfOk result (λ v. map answer_view v.items
-        ≡ heard (judgement_view judgement.now).verdict bytes.now) }
+    ensures { (bytes : List ℕ) → header_of bytes ≡ Ok header.now →
+        IsReadOf bytes header.now reading.now →
+        let heard_of = heard (judgement_view judgement.now).verdict bytes in
+        IfOk result (λ v. map answer_view v.items ≡ heard_of) }
 {
     match &judgement.verdict {
         Verdict::Refused(_) => Ok(Vec::new(alloc)),
-        Verdict::Judged(_) => answers_read(alloc, bytes, header),
+        Verdict::Judged(_) => answers_read(alloc, header, reading),
     }
 }
 

@@ -4,22 +4,13 @@ use Rattle.x12_judge.specs.Verdict.{judgement_by, judgement_of}
 use Rattle.x12_judge.specs.Laws.{IsSmallVerdict}
 use Rattle.x12_judge.proofs.ListLemmas.{if_ok}
 use Rattle.x12_judge.proofs.SmallVerdictLemmas.{judgement_is_small}
-use Rattle.x12_judge.proofs.OutlineBoundLemmas.{reading_small, reading_is, header_bound}
 use Rattle.x12_judge.proofs.judging.judge.Goals as goal
-
-pub judge_reading-requires : goal.judge_reading-requires
-judge_reading-requires c =
-    let read = c.outline-reading.ensures in
-    reading_small c.args.header.now.delims c.args.bytes.now c.outline-reading.result
-    (header_bound c.args.bytes.now c.args.header.now c.requires.read) read.outline read.groups read.sets
 
 pub returns : goal.returns
 unfolding judgement_of
 returns c =
-    let d = c.args.header.now.delims in
     let ags = map agreement_view c.args.agreements.now in
-    let is = reading_is d c.outline-reading.result _ c.outline-reading.ensures.outline (sym c.if-is_memory_fault.ensures) in
-    let by = ap (judgement_by c.args.me.now ags c.args.header.now) (sym is) in
+    let by = ap (judgement_by c.args.me.now ags c.args.header.now) c.in_ok-reading.ensures.is in
     record {
       verdict = if_ok c.judge_reading.result (λ j e. e ∙ by) c.judge_reading.ensures;
       small = if_ok c.judge_reading.result

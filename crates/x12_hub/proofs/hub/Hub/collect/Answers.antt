@@ -10,7 +10,7 @@ use Rattle.x12_hub.proofs.hub.Hub.collect.Goals as goal
 
 pub returns-clause-items : goal.returns-clause-items
 returns-clause-items g c = λ answers.
-    let before = c.with_bytes.ensures.never_won_back.0 answers in
+    let before = c.with_bytes.ensures.asked.never_won_back answers in
     let s = g.H.HubRecords.content c.self.inside.records in
     let sound = g.met.H.HubRecords.sound c.self.inside.records c.self.invariant.0 before in
     let hub_is = ap (λ (v : HubView g.row.H.Denot). v.hub) c.self.view_is in
@@ -24,4 +24,4 @@ returns-in_err-items-clause-crash g c =
 
 pub returns-clause-crash : goal.returns-clause-crash
 returns-clause-crash g c =
-    rw (← c.self.view_is) (hub_asked g.H.HubRecords _ c.self.inside.cached.me (λ d answers may. g.met.H.HubRecords.left_is_held c.with_bytes.new.records d c.with_bytes.ensures.valid answers may) c.with_bytes.ensures.crash)
+    rw (← c.self.view_is) (hub_asked g.H.HubRecords _ c.self.inside.cached.me (λ d answers may. g.met.H.HubRecords.left_is_held c.with_bytes.new.records d c.with_bytes.ensures.asked.valid answers may) c.with_bytes.ensures.asked.leaves)

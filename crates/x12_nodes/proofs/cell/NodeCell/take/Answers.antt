@@ -23,7 +23,7 @@ invariant_of-self-2 g c =
     (ap (map log_entry_view) items ∙ map-append log_entry_view old.log.items (entry ∷ []))
     (λ answers.
     let d = c.in_ok-did.ensures.did answers in
-    let enough = is_enough old.site c.bound-count.result k (node_of old.core) (node_of c.apply.new.self) did (c.bound-count.ensures (c.apply.ensures.never_won_back answers)) d in
+    let enough = is_enough old.site c.bound-count.result k (node_of old.core) (node_of c.apply.new.self) did (c.bound-count.ensures.does (c.apply.ensures.never_won_back answers)) d in
     subst (λ (e : LogEntry). IsStepOf old.site e (node_of old.core) (node_of c.apply.new.self)) (sym (c.written-entry.ensures.entry enough))
     (did_step old.site c.args.stamp k (node_of old.core) (node_of c.apply.new.self) did d))
 
@@ -37,7 +37,7 @@ returns-clause-took g c =
     let entry = c.written-entry.result.0 in
     let items : c.push_reserved.new.self.items ≡ old.log.items ++ entry ∷ [] = c.push_reserved.ensures.items ∙ ap (λ l. l ++ entry ∷ []) c.reserve.ensures.items in
     let d = c.in_ok-did.ensures.did answers in
-    let enough = is_enough old.site c.bound-count.result k (node_of old.core) (node_of c.apply.new.self) did (c.bound-count.ensures (c.apply.ensures.never_won_back answers)) d in
+    let enough = is_enough old.site c.bound-count.result k (node_of old.core) (node_of c.apply.new.self) did (c.bound-count.ensures.does (c.apply.ensures.never_won_back answers)) d in
     let is = c.written-entry.ensures.entry enough in
     record {
       entry = log_entry_view entry;

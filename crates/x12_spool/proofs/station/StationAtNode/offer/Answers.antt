@@ -6,8 +6,8 @@ use Rattle.x12_spool.proofs.station.StationAtNode.offer.Goals as goal
 pub returns-in-Err-plain_offers : goal.returns-in-Err-plain_offers
 returns-in-Err-plain_offers g c =
     let sends = map (λ b. b.items) c.in-Ok.due.items in
-    inr (map plain_offer sends, ((λ answers. (subst IsTrue c.in-Ok.ensures.answers answers, sends, c.in-Ok.ensures.ticked answers, refl)), refl))
+    inr (map plain_offer sends, ((λ answers. (subst IsTrue c.in-Ok.ensures.asks_none.answers answers, sends, c.in-Ok.ensures.ticked answers, refl)), refl))
 
 -- it didn't
 pub returns-in-Err : goal.returns-in-Err
-returns-in-Err g c = inl ((λ answers. (subst IsTrue c.in-Err.ensures.answers answers, c.in-Err.ensures.unchanged)), refl)
+returns-in-Err g c = inl ((λ answers. (subst IsTrue c.in-Err.ensures.asks_none.answers answers, c.in-Err.ensures.unchanged)), refl)

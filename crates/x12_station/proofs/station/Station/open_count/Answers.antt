@@ -3,8 +3,8 @@ use Rattle.std.proofs.Common.{◌∙◌}
 use Rattle.x12_station.proofs.TickLemmas.{open_is}
 use Rattle.x12_station.proofs.station.Station.open_count.Goals as goal
 
-pub returns : goal.returns
-returns g c =
+pub returns-clause-open : goal.returns-clause-open
+returns-clause-open g c =
     let m = c.self.inside.memory in
     let s = g.R.Records.content c.self.inside.records in
     let was = c.self.invariant in

@@ -1,5 +1,9 @@
-use Rattle.std.proofs.Common.{ap}
-use Rattle.x12_station.proofs.TickLemmas.{ready_after, keeps_after, durable_after, ticks}
+use Rattle.std.proofs.Common.{ap, arith, refl}
+use Rattle.std.specs.Prelude.{length}
+use Rattle.std.proofs.lemmas.List.{length-map}
+use Rattle.x12_outbound.specs.Ledger.{numbers_due}
+use Rattle.x12_station.specs.working.Due.{submission_bytes}
+use Rattle.x12_station.proofs.TickLemmas.{ready_after, keeps_after, durable_after, due_bounded, ticks}
 use Rattle.x12_station.proofs.StoppedLemmas.{step_untouched, whole}
 use Rattle.x12_station.proofs.station.Station.tick.Goals as goal
 
@@ -22,15 +26,35 @@ returns-clause-ticked g c = λ answers.
     let s = g.R.Records.content c.self.inside.records in
     rw (← c.self.view_is, c.in_ok-due.ensures) (ticks c.args.now m c.sent.new.self (ap (λ v. v.holds) c.sent.ensures) s (was.held answers).0 (was.held answers).1)
 
-pub returns-in_err-due-clause-crash : goal.returns-in_err-due-clause-crash
-returns-in_err-due-clause-crash g c =
+pub returns-in_err-due-clause-asks_none : goal.returns-in_err-due-clause-asks_none
+returns-in_err-due-clause-asks_none g c =
     let m = c.self.inside.memory in
     let was = c.self.invariant in
-    rw (← c.self.view_is) (whole g.R.Records _ m.ledger.holds m.ledger.holds m.counts m.counts (λ d answers may. g.met.R.Records.left_is_held c.self.inside.records d was.valid answers may) (step_untouched g.R.Records _))
+    rw (← c.self.view_is) (record {
+      answers = refl;
+      clean = refl;
+      failures = refl;
+      left = whole g.R.Records _ m.ledger.holds m.ledger.holds m.counts m.counts (λ d answers may. g.met.R.Records.left_is_held c.self.inside.records d was.valid answers may) (step_untouched g.R.Records _);
+    })
 
-pub returns-clause-crash : goal.returns-clause-crash
-returns-clause-crash g c =
+pub returns-clause-asks_none : goal.returns-clause-asks_none
+returns-clause-asks_none g c =
     let m = c.self.inside.memory in
     let n = c.sent.new.self in
     let was = c.self.invariant in
-    rw (← c.self.view_is) (whole g.R.Records _ m.ledger.holds n.holds m.counts m.counts (λ d answers may. g.met.R.Records.left_is_held c.self.inside.records d was.valid answers may) (step_untouched g.R.Records _))
+    rw (← c.self.view_is) (record {
+      answers = refl;
+      clean = refl;
+      failures = refl;
+      left = whole g.R.Records _ m.ledger.holds n.holds m.counts m.counts (λ d answers may. g.met.R.Records.left_is_held c.self.inside.records d was.valid answers may) (step_untouched g.R.Records _);
+    })
+
+-- what is due is open
+pub returns-clause-bounded : goal.returns-clause-bounded
+returns-clause-bounded g c =
+    let v = c.self.inside.memory.ledger.holds in
+    let n = ap length c.in_ok-due.ensures in
+    let k = length-map (numbers_due c.args.now v) (submission_bytes v) in
+    let l = length-map c.in_ok-due.due.items (λ b. b.items) in
+    let le = due_bounded c.args.now v in
+    rw (← c.self.view_is) (omega (arith, n, k, l, le))
