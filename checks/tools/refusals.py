@@ -30,6 +30,8 @@ LEFT = {"unchanged", "back", "same", "front", "crash", "disk", "answered", "neve
 # Where no clause says when: what shows it.
 SHOWN = {
     "x12_inspect": "`checks/van.sh`",
+    "x12_segments": "`checks/van.sh`",
+    "x12_sent": "`checks/van.sh`",
     "x12_mailbox": "`checks/mailbox.py`",
     "x12_network": "`gates.rt` of x12_trial_tests",
     "x12_nodes": "`refusals.rt` of x12_nodes_tests",

@@ -6,7 +6,8 @@ use clap::{Arg, ArgAction, ArgMatches, Command};
 use std::alloc::{AllocError, Global};
 use std::process::ExitCode;
 use x12_envelopes::Party;
-use x12_inspect::{Outcome, SentFile, Style, run_explain, run_pending};
+use x12_inspect::{Explained, Outcome, Style, read_sent, run_explain, run_pending};
+use x12_sent::SentFile;
 use x12_words::{FAMILIES, Wording, find_wording, split_code, wordings};
 
 const ABOUT: &str = "Says in words what acknowledgments (TA1, 997) say, or what a code means.";
@@ -99,60 +100,89 @@ fn explain_code(rt: &HostRuntime, code: &str) -> Result<ExitCode> {
     Ok(ExitCode::SUCCESS)
 }
 
-/// Explains one input.
-fn explain(
+/// Explains one input, beside what was sent; `None` where the run stopped, as standard error says then.
+fn explain<'f>(
     rt: &HostRuntime,
     style: &Style<'_>,
-    sent: &mut Option<SentFile<'_>>,
-) -> Result<Outcome> {
+    sent: Option<SentFile<'f>>,
+) -> Result<Option<Explained<'f>>> {
+    let outcome = Outcome::SomethingWrong;
     let Some(input) = files::read(rt, style.file)? else {
-        return Ok(Outcome::SomethingWrong);
+        return Ok(Some(Explained { outcome, sent }));
     };
-    let told = run_explain(rt.alloc(), style, &input, sent, &mut rt.stdout());
-    files::told(rt, style.file, told)
+    match run_explain(rt.alloc(), style, &input, sent, &mut rt.stdout()) {
+        Ok(explained) => Ok(Some(explained)),
+        Err(fault) => {
+            files::told(rt, style.file, Err(fault))?;
+            Ok(None)
+        }
+    }
 }
 
 /// Explains each input, beside the file that was sent, where it is given.
-fn explain_all(
+fn explain_all<'f>(
     rt: &HostRuntime,
     style: &Style<'_>,
     words: &[&str],
-    sent: &mut Option<SentFile<'_>>,
-) -> Result<Outcome> {
+    sent: Option<SentFile<'f>>,
+) -> Result<Explained<'f>> {
     let named = files::named(rt.alloc(), words)?;
-    let mut outcome = Outcome::AllRight;
+    let mut all = Explained {
+        outcome: Outcome::AllRight,
+        sent,
+    };
     for file in &named {
         files::head(rt, style.form, &named, file)?;
-        outcome = files::both(outcome, explain(rt, &Style { file, ..*style }, sent)?);
+        let Some(one) = explain(rt, &Style { file, ..*style }, all.sent)? else {
+            return Ok(Explained {
+                outcome: Outcome::SomethingWrong,
+                sent: None,
+            });
+        };
+        all = Explained {
+            outcome: files::both(all.outcome, one.outcome),
+            sent: one.sent,
+        };
     }
-    Ok(outcome)
+    Ok(all)
 }
 
-/// Explains each input beside a file that was sent, and says which of its sets stay pending.
-fn explain_beside(
+/// Explains each input beside what was sent in a file, and says which of its sets stay pending.
+fn explain_beside<'a>(
     rt: &HostRuntime,
-    style: &Style<'_>,
+    style: &Style<'a>,
     hub: Option<Party>,
+    input: &'a [u8],
     words: &[&str],
 ) -> Result<Outcome> {
     let alloc = rt.alloc();
-    let Some(input) = files::read(rt, style.file)? else {
-        return Ok(Outcome::SomethingWrong);
-    };
-    let read = SentFile::read(alloc, style, hub, &input, &mut rt.stdout());
-    let (sent, outcome) = match read {
+    let (sent, right) = match read_sent(alloc, style, hub, input, &mut rt.stdout()) {
         Ok(read) => read,
         Err(fault) => return files::told(rt, style.file, Err(fault)),
     };
-    let mut sent = Some(sent);
-    let outcome = files::both(outcome, explain_all(rt, style, words, &mut sent)?);
-    let Some(sent) = &sent else {
+    let all = explain_all(rt, style, words, Some(sent))?;
+    let outcome = files::both(Outcome::of(right), all.outcome);
+    let Some(sent) = &all.sent else {
         return Ok(outcome);
     };
     match run_pending(alloc, style, sent, &mut rt.stdout()) {
         Ok(()) => Ok(outcome),
         Err(fault) => files::told(rt, style.file, Err(fault)),
     }
+}
+
+/// Explains each input beside the file that was sent, which the style names.
+fn explain_of(
+    rt: &HostRuntime,
+    style: &Style<'_>,
+    hub: Option<Party>,
+    words: &[&str],
+) -> Result<Outcome> {
+    let Some(input) = files::read(rt, style.file)? else {
+        return Ok(Outcome::SomethingWrong);
+    };
+    let style = *style;
+    explain_beside(rt, &style, hub, &input, words)
 }
 
 /// Runs the subcommand, and gives its exit status.
@@ -172,8 +202,8 @@ pub fn run(rt: &HostRuntime, found: &ArgMatches<'_>) -> Result<ExitCode> {
         file: found.get_str("of").unwrap_or("-"),
     };
     let outcome = match found.get_str("of") {
-        Some(_) => explain_beside(rt, &style, named, words)?,
-        None => explain_all(rt, &style, words, &mut None)?,
+        Some(_) => explain_of(rt, &style, named, words)?,
+        None => explain_all(rt, &style, words, None)?.outcome,
     };
     Ok(files::status(outcome))
 }

@@ -5,7 +5,8 @@ use anyhow::Result;
 use clap::{Arg, ArgAction, ArgMatches, Command};
 use std::alloc::{AllocError, Global};
 use std::process::ExitCode;
-use x12_inspect::{Layout, Outcome, Style, run_layout, run_show};
+use x12_inspect::{Outcome, Style, run_show};
+use x12_segments::{Layout, run_layout};
 
 const ABOUT: &str = "Shows the segments of a file, each with its place.";
 
@@ -60,7 +61,10 @@ fn show(rt: &HostRuntime, style: &Style<'_>, layout: Option<Layout>) -> Result<O
         return Ok(Outcome::SomethingWrong);
     };
     let shown = match layout {
-        Some(layout) => run_layout(rt.alloc(), layout, &input, &mut rt.stdout()),
+        Some(layout) => match run_layout(rt.alloc(), layout, &input, &mut rt.stdout()) {
+            Ok(right) => Ok(Outcome::of(right)),
+            Err(fault) => Err(fault),
+        },
         None => run_show(rt.alloc(), style, &input, &mut rt.stdout()),
     };
     files::told(rt, style.file, shown)

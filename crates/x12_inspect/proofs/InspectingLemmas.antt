@@ -1,12 +1,9 @@
 -- Lemmas on going over the interchanges of a transmission.
-use Rattle.std.proofs.Common.{◌≡◌, ℕ, ◌+◌, ◌<◌, ◌≤◌, Bool, true, false, ◌&&◌, List, [], ◌∷◌, length, drop, get_or, Result, Ok, Err, IfOk, refl, ap, ◌∙◌, add-one, drop-cons}
-use Rattle.std.proofs.lemmas.List.{drop_all}
-use Rattle.std.specs.Borrow.{Bor}
+use Rattle.std.proofs.Common.{◌≡◌, ℕ, Bool, true, false, ◌&&◌, List, Result, Ok, Err, IfOk, OnOk, ap, ◌∙◌}
 use Rattle.x12_envelopes.specs.Transmission.{AreSlices}
-use Rattle.x12_envelopes.specs.Writing.{texts}
 use Rattle.x12_answering.specs.declared.fault.RunFault.{RunFault}
 use Rattle.x12_inspect.specs.declared.inspecting.Outcome.{Outcome}
-use Rattle.x12_inspect.specs.Inspecting.{outcome_by, EndsAs}
+use Rattle.x12_inspect.specs.Inspecting.{outcome_by, EndsAs, WasAsked}
 
 -- going over the slices of a transmission goes over the transmission
 pub transmission_inspected : (all_right : List (List ℕ) → Bool) (input : List ℕ) (interchanges : List (List ℕ))
@@ -21,27 +18,13 @@ pub right_so_far : (all right rest behind whole after : Bool) → rest ≡ (righ
 right_so_far true right rest behind whole after is was now = rw (now, ← is) was
 right_so_far false right rest behind whole after is was now = rw now was
 
--- one interchange more, which is right or not
-pub right_on : (all right is rest whole after : Bool) → right ≡ is → (all && (is && rest)) ≡ whole → after ≡ (all && right) → (after && rest) ≡ whole
-right_on true right is rest whole after same was now = ap (λ b. b && rest) (now ∙ same) ∙ was
-right_on false right is rest whole after same was now = ap (λ b. b && rest) now ∙ was
-
 -- with none left
 pub right_at_last : (all whole : Bool) (outcome : Outcome) → outcome ≡ outcome_by all → (all && true) ≡ whole → outcome ≡ outcome_by whole
 right_at_last true whole outcome is was = is ∙ ap outcome_by was
 right_at_last false whole outcome is was = is ∙ ap outcome_by was
 
--- the first of what is left, and what is left behind it
-pub texts_left : (i : ℕ) (xs : List (Bor (List ℕ))) (d : Bor (List ℕ)) → i < length xs →
-    texts (drop i xs) ≡ (get_or xs i d).now ∷ texts (drop (i + 1) xs)
-texts_left i xs d inside =
-    let first : drop i xs ≡ get_or xs i d ∷ drop (i + 1) xs = rw add-one (drop-cons xs i d inside) in
-    rw first refl
-
--- nothing is left
-pub texts_done : (i : ℕ) (xs : List (Bor (List ℕ))) → length xs ≤ i → texts (drop i xs) ≡ []
-texts_done i xs past = rw (drop_all i xs past) refl
-
-pub and_true : (b : Bool) → (b && true) ≡ b
-and_true true = refl
-and_true false = refl
+-- and what was asked of its interchanges
+pub transmission_asked : (asked : List (List ℕ) → Type 0) (input : List ℕ) (interchanges : List (List ℕ))
+    (result : Result Outcome RunFault) → AreSlices interchanges input → OnOk result (asked interchanges) → OnOk result (WasAsked asked input)
+transmission_asked asked input interchanges (Ok outcome) cut was = record { interchanges = interchanges; cut = cut; asked = was }
+transmission_asked asked input interchanges (Err fault) cut was = tt

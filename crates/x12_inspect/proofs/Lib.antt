@@ -1,8 +1,3 @@
 pub mod InspectingLemmas
-pub mod PlainLemmas
 pub mod PrintingLemmas
-pub mod LayingLemmas
-pub mod SubmittingLemmas
-pub mod ClosingLemmas
-pub mod SentLemmas
-pub mod ShowingLemmas
+pub mod ExplainingLemmas

@@ -12,3 +12,9 @@ pub record EndsAs (all_right : List (List ℕ) → Bool) (input : List ℕ) (out
   pub interchanges : List (List ℕ)
   pub cut : AreSlices interchanges input
   pub ends : outcome ≡ outcome_by (all_right interchanges)
+
+-- a transmission was gone over, and this was asked of its interchanges, in order
+pub record WasAsked (was : List (List ℕ) → Type 0) (input : List ℕ) : Type 0 where
+  pub interchanges : List (List ℕ)
+  pub cut : AreSlices interchanges input
+  pub asked : was interchanges

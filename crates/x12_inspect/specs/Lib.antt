@@ -3,8 +3,5 @@ pub mod Finding
 pub mod Accepting
 pub mod Checking
 pub mod Showing
-pub mod Plain
-pub mod Laying
-pub mod Submitting
-pub mod Closing
+pub mod Sending
 pub mod Explaining

@@ -1,14 +1,13 @@
 //! What an answer says, as a value: what both printers print of a TA1 or a 997, beside what was sent.
 
-use crate::closing::Meaning;
 use crate::coded::{Coded, code_of};
-use crate::sent::{SentFile, SentSet};
 use crate::told::Told;
 use std::alloc::{AllocError, Global};
 use std::collections::BTreeMap;
 use x12_acks::SetKey;
 use x12_envelopes::{AcknowledgmentCode, Delims, Segment, Segments, SetView, number_of};
 use x12_outbound::{Entry, Fate};
+use x12_sent::{Meaning, SentFile, SentSet};
 
 /// What was sent where a note of a 997 points to, if anything stands there; `None` where the set isn't
 /// known.

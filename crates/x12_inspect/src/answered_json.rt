@@ -3,11 +3,11 @@
 use crate::answered::{Answered, Keyed, Line, first_named, ta1_code};
 use crate::coded::{code_of, numbered};
 use crate::piece::{Filled, NULL, icn, members};
-use crate::sent::SentSet;
 use crate::slice::Interchange;
 use crate::text::Text;
 use x12_acks::{Answer, SetKey};
 use x12_envelopes::{Delims, Segment, SetView};
+use x12_sent::SentSet;
 use x12_words::fate_word;
 
 /// Adds the codes of a segment from this element on, five at most.

@@ -3,11 +3,11 @@
 use crate::answered::{Answered, Keyed, Line, Pointed, Spoken, first_named, ta1_code};
 use crate::coded::{Fares, code_of, numbered};
 use crate::piece::{Filled, icn, say};
-use crate::sent::{SentFile, SentSet};
 use crate::slice::Interchange;
 use crate::text::Text;
 use x12_acks::Answer;
 use x12_envelopes::{AcknowledgmentCode, Delims, Segment, SetView};
+use x12_sent::{SentFile, SentSet};
 use x12_words::fate_word;
 
 /// Adds the codes of a segment from this element on, five at most, each with its words, behind `: `,

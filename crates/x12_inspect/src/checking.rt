@@ -95,11 +95,7 @@ impl Inspector for Receiver<'_> {
                 return Ok(false);
             }
         };
-        let at = Interchange {
-            place: slice.place,
-            bytes: slice.bytes,
-            header: &header,
-        };
+        let at = slice.with(&header);
         let judgement = self.terms.judge(alloc, slice.bytes, &header)?;
         let found = self.terms.found(alloc, &at, &judgement)?;
         let accepted = accepts_all(&judgement);
@@ -108,6 +104,10 @@ impl Inspector for Receiver<'_> {
     }
 
     ghost of_none = { λ r. refl };
+
+    ghost asked = { λ r interchanges s. Unit {0} };
+
+    ghost at_last = { λ r. tt };
 }
 
 /// Checks a transmission as its receiver: writes to `out` what is said of each interchange, in

@@ -33,9 +33,10 @@ pub(crate) fn code_of<'a>(family: &str, code: &'a [u8]) -> Coded<'a> {
 
 /// A code of a family that is a number.
 pub(crate) fn numbered(family: &str, number: u32) -> Coded<'static> {
+    let last = b'0' + (number % 10) as u8;
     for wording in wordings(family) {
         let code = wording.code().as_bytes();
-        if number_of(code) == Some(number) {
+        if code.last() == Some(&last) && number_of(code) == Some(number) {
             let words = wording.words();
             return Coded { code, words };
         }

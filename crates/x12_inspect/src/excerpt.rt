@@ -1,13 +1,13 @@
 //! On a terminal: carets below bytes that are wrong, and the segment that a note is of.
 
 use crate::piece::{Ink, say};
-use crate::plain::without_line_ends;
 use crate::printing::Noted;
 use crate::style::Look;
 use crate::text::Text;
 use std::str;
 use x12_envelopes::{Delims, cut_at};
 use x12_judge::SetNote;
+use x12_segments::without_line_ends;
 
 /// The most bytes that are shown in front of what is wrong, and from it on.
 const AROUND: usize = 40;

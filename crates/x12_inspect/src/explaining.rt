@@ -2,7 +2,7 @@
 //! (TA1, 997), beside the file that was sent, where it is given.
 
 ghost use Rattle.std.specs.Prelude.{IfOk};
-ghost use Rattle.x12_inspect.specs.Explaining.{EndsAsExplained};
+ghost use Rattle.x12_inspect.specs.Explaining.{EndsAsExplained, LeavesSent};
 
 use crate::answered::{answer_beside, pending};
 use crate::answered_json::{put_answers, put_pending};
@@ -10,7 +10,6 @@ use crate::answered_words::{say_answers, say_pending};
 use crate::fault::outline_fault;
 use crate::inspecting::{Inspector, Outcome, inspect_all};
 use crate::report::{Found, Report, tell, unreadable};
-use crate::sent::SentFile;
 use crate::slice::{Interchange, Slice};
 use crate::style::{Form, Style};
 use crate::text::Text;
@@ -19,6 +18,7 @@ use std::alloc::{AllocError, Global};
 use std::io::Write;
 use x12_answering::{RunFault, write_last};
 use x12_envelopes::{OutlineFault, outline, read_header};
+use x12_sent::SentFile;
 
 /// Tells what an interchange answers, in order.
 fn tell_answers(
@@ -55,15 +55,18 @@ fn unread<'r, 'a>(at: &Interchange<'r, 'a>, fault: OutlineFault) -> Report<'r, '
 #[derive(Drop)]
 struct Reader<'t, 'f> {
     style: &'t Style<'t>,
-    sent: &'t mut Option<SentFile<'f>>,
+    sent: Option<SentFile<'f>>,
 }
 
 impl Inspector for Reader<'_, '_> {
-    ghost use Rattle.std.specs.Prelude.{refl};
+    ghost use Rattle.std.specs.Prelude.{refl, flat_map};
     ghost use Rattle.std.specs.List.{list_all};
-    ghost use Rattle.x12_inspect.specs.Explaining.{can_be_read};
+    ghost use Rattle.x12_inspect.specs.Explaining.{can_be_read, answers_to_party, MayBeLeftBy, none_told};
 
     ghost all_right = { λ r interchanges. list_all can_be_read interchanges };
+
+    ghost asked = { λ r interchanges s.
+        MayBeLeftBy (λ me. flat_map (answers_to_party me) interchanges) r.sent s.sent };
 
     #[tactic(auto, unfolding(crate::specs::Explaining::can_be_read))]
     fn inspect(
@@ -79,19 +82,17 @@ impl Inspector for Reader<'_, '_> {
                 return Ok(false);
             }
         };
-        let at = Interchange {
-            place: slice.place,
-            bytes: slice.bytes,
-            header: &header,
-        };
+        let at = slice.with(&header);
         match outline(alloc, slice.bytes, &header) {
             Ok(read) => {
-                let told = read_told(alloc, &header, &read, self.sent)?;
-                tell_answers(alloc, self.style, out, &at, &told, self.sent)?;
+                let told = read_told(alloc, &header, &read, &mut self.sent)?;
+                tell_answers(alloc, self.style, out, &at, &told, &self.sent)?;
                 Ok(true)
             }
-            Err(OutlineFault::Memory) => Err(AllocError),
             Err(fault) => {
+                if let OutlineFault::Memory = fault {
+                    return Err(AllocError);
+                }
                 tell(self.style, out, &unread(&at, fault));
                 Ok(false)
             }
@@ -99,25 +100,40 @@ impl Inspector for Reader<'_, '_> {
     }
 
     ghost of_none = { λ r. refl };
+
+    ghost at_last = { λ r. none_told r.sent };
+}
+
+/// What was explained.
+#[derive(Drop)]
+pub struct Explained<'f> {
+    /// All is right exactly where each interchange can be read.
+    pub outcome: Outcome,
+    /// The file that was sent, as the answers left it; `None` where none was given.
+    pub sent: Option<SentFile<'f>>,
 }
 
 /// Explains the acknowledgments of a transmission: writes to `out` of each interchange, in order, what
 /// each of its answers says; and where a file that was sent is given, what the answer means to its
-/// sender. All is right exactly where each interchange can be read.
+/// sender. All is right exactly where each interchange can be read. Each answer to the file's sender
+/// closes what it is about, and no other does.
 ///
 /// On an error, `RunFault::Write` or `RunFault::Memory`, what was said of the first interchanges may
 /// have been written.
-pub fn run_explain<W: Write>(
+pub fn run_explain<'f, W: Write>(
     alloc: Global,
     style: &Style<'_>,
     input: &[u8],
-    sent: &mut Option<SentFile<'_>>,
+    sent: Option<SentFile<'f>>,
     out: &mut W,
-) -> Result<Outcome, RunFault>
-    ensures { IfOk result (λ outcome. EndsAsExplained input.now outcome) }
+) -> Result<Explained<'f>, RunFault>
+    ensures ends { IfOk result (λ e. EndsAsExplained input.now e.outcome) }
+    ensures left { IfOk result (λ e. LeavesSent input.now sent.entry e.sent) }
 {
     let mut reader = Reader { style, sent };
-    inspect_all(alloc, &mut reader, style.look, input, out)
+    let outcome = inspect_all(alloc, &mut reader, style.look, input, out)?;
+    let Reader { style: _, sent } = reader;
+    Ok(Explained { outcome, sent })
 }
 
 /// Writes which sets of a file that was sent stay pending, once its acknowledgments were explained.

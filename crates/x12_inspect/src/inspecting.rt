@@ -1,8 +1,8 @@
 //! Going over the interchanges of a transmission, one after another: the one loop of all questions.
 
-ghost use Rattle.std.specs.Prelude.{◌≡◌, ◌∷◌, [], ◌&&◌, List, ℕ, Bool, true, IfOk};
+ghost use Rattle.std.specs.Prelude.{◌≡◌, ◌∷◌, [], ◌&&◌, List, ℕ, Bool, true, IfOk, OnOk};
 ghost use Rattle.x12_envelopes.specs.Writing.{texts};
-ghost use Rattle.x12_inspect.specs.Inspecting.{outcome_by, EndsAs};
+ghost use Rattle.x12_inspect.specs.Inspecting.{outcome_by, EndsAs, WasAsked};
 
 use crate::slice::Slice;
 use crate::style::Look;
@@ -21,14 +21,16 @@ pub enum Outcome {
     SomethingWrong,
 }
 
-/// The outcome where all is right, or something is wrong.
-pub(crate) fn outcome_of(all_right: bool) -> Outcome
-    ensures { result ≡ outcome_by all_right }
-{
-    if all_right {
-        Outcome::AllRight
-    } else {
-        Outcome::SomethingWrong
+impl Outcome {
+    /// The outcome where all is right, or something is wrong.
+    pub fn of(all_right: bool) -> Outcome
+        ensures { result ≡ outcome_by all_right }
+    {
+        if all_right {
+            Outcome::AllRight
+        } else {
+            Outcome::SomethingWrong
+        }
     }
 }
 
@@ -37,6 +39,9 @@ pub(crate) trait Inspector {
     /// From here on all is right of these interchanges, one after another.
     ghost all_right: { Self → List (List ℕ) → Bool };
 
+    /// From one inspector to another it was asked of these interchanges, one after another.
+    ghost asked: { Self → List (List ℕ) → Self → Type 0 };
+
     /// Adds what is said of an interchange, and answers whether that is right.
     fn inspect(
         &mut self,
@@ -44,11 +49,15 @@ pub(crate) trait Inspector {
         out: &mut Text,
         slice: &Slice<'_>,
     ) -> Result<bool, AllocError>
-        ensures { IfOk result (λ right. (more : List (List ℕ)) →
-            all_right self.old (slice.now.bytes.now ∷ more) ≡ (right && all_right self.new more)) };
+        ensures right { IfOk result (λ right. (more : List (List ℕ)) →
+            all_right self.old (slice.now.bytes.now ∷ more) ≡ (right && all_right self.new more)) }
+        ensures asked { OnOk result ((more : List (List ℕ)) → (last : Self) →
+            asked self.new more last → asked self.old (slice.now.bytes.now ∷ more) last) };
 
-    // of no interchange all is right
+    // of no interchange all is right, and nothing was asked
     ghost of_none: { (inspector : Self) → all_right inspector [] ≡ true };
+
+    ghost at_last: { (inspector : Self) → asked inspector [] inspector };
 }
 
 /// Inspects interchanges in turn, and writes what is said of them.
@@ -59,8 +68,9 @@ fn inspect_each<I: Inspector, W: Write>(
     interchanges: &[&[u8]],
     out: &mut W,
 ) -> Result<Outcome, RunFault>
-    ensures { IfOk result (λ outcome.
+    ensures ends { IfOk result (λ outcome.
         outcome ≡ outcome_by (I.all_right inspector.old (texts interchanges.now))) }
+    ensures asked { OnOk result (I.asked inspector.old (texts interchanges.now) inspector.new) }
 {
     let mut all_right = true;
     let mut text = Text::new(alloc, look);
@@ -74,7 +84,7 @@ fn inspect_each<I: Inspector, W: Write>(
         write_piece(text.whole()?, out)?;
     }
     write_last(text.whole()?, out)?;
-    Ok(outcome_of(all_right))
+    Ok(Outcome::of(all_right))
 }
 
 /// Inspects each interchange of a transmission, in order, and writes what is said of it to `out`.
@@ -88,7 +98,9 @@ pub(crate) fn inspect_all<I: Inspector, W: Write>(
     input: &[u8],
     out: &mut W,
 ) -> Result<Outcome, RunFault>
-    ensures { IfOk result (λ outcome. EndsAs (I.all_right inspector.old) input.now outcome) }
+    ensures ends { IfOk result (λ outcome. EndsAs (I.all_right inspector.old) input.now outcome) }
+    ensures asked { OnOk result (WasAsked (λ interchanges.
+        I.asked inspector.old interchanges inspector.new) input.now) }
 {
     let interchanges = split_transmission(alloc, input)?;
     inspect_each(alloc, inspector, look, interchanges.as_slice(), out)

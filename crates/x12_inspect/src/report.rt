@@ -83,13 +83,18 @@ pub(crate) fn checked<'r, 'a>(
 }
 
 /// What is found of bytes whose header can't be read.
-pub(crate) fn unreadable<'r, 'a>(slice: &Slice<'a>, fault: HeaderFault) -> Report<'r, 'a> {
+pub(crate) fn headless<'r, 'a>(slice: &Slice<'a>, found: Found<'r, 'a>) -> Report<'r, 'a> {
     Report {
         place: slice.place,
         header: None,
         accepted: Some(false),
-        found: Found::Unreadable(header_fault(slice.bytes, fault)),
+        found,
     }
+}
+
+/// That the header of a slice can't be read.
+pub(crate) fn unreadable<'r, 'a>(slice: &Slice<'a>, fault: HeaderFault) -> Report<'r, 'a> {
+    headless(slice, Found::Unreadable(header_fault(slice.bytes, fault)))
 }
 
 /// Tells what is found of an interchange.

@@ -65,8 +65,8 @@ fn say_group(out: &mut Text, group: &GroupVerdict<'_>) {
     say!(out; "  group ", group.place, ", ", &group.functional, " ", group.number_text);
 }
 
-/// Adds which length is wanted of an element with this code, as `, 2 at most`.
-fn say_wanted(out: &mut Text, code: ElementCode, rule: &ElementRule) {
+/// Adds which length is wanted by the rule of an element with this code, as `, 2 at most`.
+fn say_length(out: &mut Text, code: ElementCode, rule: &ElementRule) {
     match code {
         ElementCode::Missing => {
             say!(out; ", ", rule.least);
@@ -77,6 +77,19 @@ fn say_wanted(out: &mut Text, code: ElementCode, rule: &ElementRule) {
         ElementCode::TooShort => say!(out; ", ", rule.least, " at least"),
         ElementCode::TooLong => say!(out; ", ", rule.most, " at most"),
         ElementCode::InvalidCharacter | ElementCode::InvalidDate => {}
+    }
+}
+
+/// Adds which length is wanted of the element at a place of a note, where its code is about that.
+fn say_wanted(out: &mut Text, note: &Noted<'_, '_>, place: u8, code: ElementCode) {
+    if matches!(
+        code,
+        ElementCode::InvalidCharacter | ElementCode::InvalidDate
+    ) {
+        return;
+    }
+    if let Some(rule) = note.rule(place) {
+        say_length(out, code, rule);
     }
 }
 
@@ -96,9 +109,7 @@ fn say_note(out: &mut Text, note: &Noted<'_, '_>) {
                 say!(out; " \"", *copy, "\"");
             }
             say!(out; ": ", note.coded());
-            if let Some(rule) = note.rule(*place) {
-                say_wanted(out, *code, rule);
-            }
+            say_wanted(out, note, *place, *code);
         }
     }
     out.say("\n");

@@ -1,30 +1,26 @@
 //! What may be submitted of a transmission, and why a station would refuse the rest.
 
-ghost use Rattle.std.specs.Prelude.{◌≡◌, [], ◌∷◌, Ok, IfOk, IfSome, OnOk, is_none, is_some};
-ghost use Rattle.x12_numbers.specs.Book.{Uses};
-ghost use Rattle.x12_envelopes.specs.Header.{header_of};
-ghost use Rattle.x12_envelopes.specs.Shape.{outline_view};
-ghost use Rattle.x12_acks.specs.Submission.{submission_of};
-ghost use Rattle.x12_outbound.specs.Entry.{IsSendable};
-ghost use Rattle.x12_outbound.specs.Submitting.{numbers_of_groups, submit_fault};
-ghost use Rattle.x12_inspect.specs.Submitting.{book_behind, EndsAsCheckedBySender};
+ghost use Rattle.std.specs.Prelude.{IfOk};
+ghost use Rattle.x12_sent.specs.Sent.{IsSent};
+ghost use Rattle.x12_inspect.specs.Sending.{EndsAsCheckedBySender};
 
 use crate::coded::code_of;
 use crate::fault::{Cause, header_fault, outline_fault, say_address};
 use crate::inspecting::{Inspector, Outcome, inspect_all};
 use crate::piece::{icn, say};
-use crate::report::{Found, Report, checked, tell};
+use crate::report::{Found, checked, headless, tell};
 use crate::slice::{Interchange, Slice};
-use crate::style::{Look, Style};
+use crate::style::{Form, Look, Style};
 use crate::text::Text;
 use std::alloc::{AllocError, Global};
 use std::io::Write;
-use x12_answering::RunFault;
+use x12_answering::{RunFault, write_last};
 use x12_envelopes::{
     GroupView, Header, HeaderFault, Outline, OutlineFault, Party, SetView, outline, read_header,
 };
 use x12_numbers::Book;
-use x12_outbound::{SubmitFault, Submittable};
+use x12_outbound::SubmitFault;
+use x12_sent::{Refusals, Sender, SentFile};
 
 /// Adds the group at an index, by its place and its codes, as `group 1, PO 1`.
 fn say_group(words: &mut Text, index: usize, group: &GroupView<'_>) {
@@ -91,141 +87,92 @@ fn say_old(words: &mut Text, last: &Book, header: &Header, read: &Outline<'_>) {
     }
 }
 
-/// A sender: its address, and the last numbers that it used.
-#[derive(Clone, Copy)]
-pub(crate) struct Sender {
-    pub me: Party,
-    pub book: Book,
+/// Adds what a fault of what an interchange holds was found in.
+fn say_held(
+    words: &mut Text,
+    sender: &Sender,
+    fault: SubmitFault,
+    header: &Header,
+    read: &Outline<'_>,
+) {
+    match fault {
+        SubmitFault::Acknowledgments => say_answer(words, read),
+        SubmitFault::Empty => say_empty(words, read),
+        SubmitFault::SetTwice => say_twice(words, read),
+        SubmitFault::NotNew => say_old(words, &sender.book, header, read),
+        _ => {}
+    }
 }
 
-impl Sender {
-    /// Adds what a fault of what an interchange holds was found in.
-    fn say_held(&self, words: &mut Text, fault: SubmitFault, header: &Header, read: &Outline<'_>) {
-        match fault {
-            SubmitFault::Acknowledgments => say_answer(words, read),
-            SubmitFault::Empty => say_empty(words, read),
-            SubmitFault::SetTwice => say_twice(words, read),
-            SubmitFault::NotNew => say_old(words, &self.book, header, read),
-            _ => {}
+/// Why a sender may not submit an interchange.
+fn cause_of<'a>(
+    alloc: Global,
+    sender: &Sender,
+    at: &Interchange<'_, 'a>,
+    fault: SubmitFault,
+) -> Result<Cause<'a>, AllocError> {
+    let mut words = Text::new(alloc, Look::Plain);
+    let header = at.header;
+    match fault {
+        SubmitFault::NotMine => {
+            say_address(&mut words, "ISA05 and ISA06", &header.sender, &sender.me);
         }
-    }
-
-    /// Why an interchange may not be submitted.
-    fn cause_of<'a>(
-        &self,
-        alloc: Global,
-        at: &Interchange<'_, 'a>,
-        fault: SubmitFault,
-    ) -> Result<Cause<'a>, AllocError> {
-        let mut words = Text::new(alloc, Look::Plain);
-        let header = at.header;
-        match fault {
-            SubmitFault::NotMine => {
-                say_address(&mut words, "ISA05 and ISA06", &header.sender, &self.me);
-            }
-            SubmitFault::OwnAddress => {
-                say_address(&mut words, "ISA07 and ISA08", &header.receiver, &self.me);
-            }
-            SubmitFault::Shape(found) => return Ok(Cause::Fault(outline_fault(at, found))),
-            _ => match outline(alloc, at.bytes, header) {
-                Ok(read) => self.say_held(&mut words, fault, header, &read),
-                Err(OutlineFault::Memory) => return Err(AllocError),
-                Err(_) => {}
-            },
+        SubmitFault::OwnAddress => {
+            say_address(&mut words, "ISA07 and ISA08", &header.receiver, &sender.me);
         }
-        Ok(Cause::Words(words))
+        SubmitFault::Shape(found) => return Ok(Cause::Fault(outline_fault(at, found))),
+        _ => match outline(alloc, at.bytes, header) {
+            Ok(read) => say_held(&mut words, sender, fault, header, &read),
+            Err(OutlineFault::Memory) => return Err(AllocError),
+            Err(_) => {}
+        },
     }
+    Ok(Cause::Words(words))
+}
 
-    /// Tells why an interchange with this header may not be submitted.
-    fn tell_refused<'r, 'a: 'r>(
-        &self,
-        alloc: Global,
-        style: &Style<'_>,
-        out: &mut Text,
-        at: &Interchange<'r, 'a>,
-        fault: SubmitFault,
-    ) -> Result<(), AllocError> {
-        let cause = self.cause_of(alloc, at, fault)?;
-        let found = Found::Unsendable(code_of("S", fault.number().as_bytes()), cause);
-        tell(style, out, &checked(at, false, found));
-        Ok(())
-    }
-
-    /// Tells why an interchange may not be submitted. `Err` where memory is missing.
-    fn refuse(
-        &self,
-        alloc: Global,
-        style: &Style<'_>,
-        out: &mut Text,
-        slice: &Slice<'_>,
-        fault: SubmitFault,
-    ) -> Result<(), AllocError> {
-        match read_header(slice.bytes) {
-            Ok(header) => {
-                let at = Interchange {
-                    place: slice.place,
-                    bytes: slice.bytes,
-                    header: &header,
-                };
-                self.tell_refused(alloc, style, out, &at, fault)
-            }
-            Err(unread) => {
-                tell_headless(style, out, slice, unread);
-                Ok(())
-            }
-        }
-    }
-
-    /// Submits an interchange, and answers with it as it was read; where it may not be submitted, that
-    /// is told, and there is no answer. `Err` where memory is missing.
-    pub(crate) fn submit<'a>(
-        &mut self,
-        alloc: Global,
-        style: &Style<'_>,
-        out: &mut Text,
-        slice: &Slice<'a>,
-    ) -> Result<Option<Submittable<'a>>, AllocError>
-        ensures right { IfOk result (λ r. is_some r
-            ≡ is_none (submit_fault self.old.me self.old.book slice.now.bytes.now)) }
-        ensures book { OnOk result (self.new.book
-            ≡ book_behind self.old.me self.old.book slice.now.bytes.now) }
-        ensures me { self.new.me ≡ self.old.me }
-        ensures header { IfOk result (λ r.
-            IfSome r (λ x. header_of slice.now.bytes.now ≡ Ok x.header)) }
-        ensures sendable { IfOk result (λ r. IfSome r (λ x. IsSendable (submission_of x.header
-            slice.now.bytes.now (outline_view x.header.delims x.outline)))) }
-        ensures uses { IfOk result (λ r. IfSome r (λ x. Uses self.old.book self.new.book
-            (x.header.icn ∷ []) (numbers_of_groups (outline_view x.header.delims x.outline)))) }
-    {
-        match Submittable::read(alloc, &self.me, &self.book, slice.bytes) {
-            Ok(read) => {
-                self.book = read.book;
-                Ok(Some(read))
-            }
-            Err(fault) => {
-                if let SubmitFault::Memory = fault {
-                    return Err(AllocError);
-                }
-                self.refuse(alloc, style, out, slice, fault)?;
-                Ok(None)
-            }
-        }
-    }
+/// Tells why a sender may not submit an interchange with this header.
+fn tell_refused<'r, 'a: 'r>(
+    alloc: Global,
+    style: &Style<'_>,
+    out: &mut Text,
+    sender: &Sender,
+    at: &Interchange<'r, 'a>,
+    fault: SubmitFault,
+) -> Result<(), AllocError> {
+    let coded = code_of("S", fault.number().as_bytes());
+    let cause = cause_of(alloc, sender, at, fault)?;
+    tell(
+        style,
+        out,
+        &checked(at, false, Found::Unsendable(coded, cause)),
+    );
+    Ok(())
 }
 
 /// Tells why bytes without a header that can be read may not be submitted.
-fn tell_headless(style: &Style<'_>, out: &mut Text, slice: &Slice<'_>, fault: HeaderFault) {
-    let refusal = SubmitFault::BadHeader(fault);
-    let report = Report {
-        place: slice.place,
-        header: None,
-        accepted: Some(false),
-        found: Found::Unsendable(
-            code_of("S", refusal.number().as_bytes()),
-            Cause::Fault(header_fault(slice.bytes, fault)),
-        ),
-    };
-    tell(style, out, &report);
+fn tell_headless(style: &Style<'_>, out: &mut Text, slice: &Slice<'_>, unread: HeaderFault) {
+    let coded = code_of("S", SubmitFault::BadHeader(unread).number().as_bytes());
+    let cause = Cause::Fault(header_fault(slice.bytes, unread));
+    let found = Found::Unsendable(coded, cause);
+    tell(style, out, &headless(slice, found));
+}
+
+/// Tells why a sender may not submit an interchange. An error where memory is missing.
+fn refuse(
+    alloc: Global,
+    style: &Style<'_>,
+    out: &mut Text,
+    sender: &Sender,
+    slice: &Slice<'_>,
+    fault: SubmitFault,
+) -> Result<(), AllocError> {
+    match read_header(slice.bytes) {
+        Ok(header) => tell_refused(alloc, style, out, sender, &slice.with(&header), fault),
+        Err(unread) => {
+            tell_headless(style, out, slice, unread);
+            Ok(())
+        }
+    }
 }
 
 /// How many sets an interchange has.
@@ -246,7 +193,7 @@ struct Checked<'t> {
 
 impl Inspector for Checked<'_> {
     ghost use Rattle.std.specs.Prelude.{refl};
-    ghost use Rattle.x12_inspect.specs.Submitting.{all_submitted};
+    ghost use Rattle.x12_sent.specs.Sender.{all_submitted};
 
     ghost all_right = { λ s interchanges. all_submitted s.sender.me s.sender.book interchanges };
 
@@ -256,20 +203,31 @@ impl Inspector for Checked<'_> {
         out: &mut Text,
         slice: &Slice<'_>,
     ) -> Result<bool, AllocError> {
-        let Some(read) = self.sender.submit(alloc, self.style, out, slice)? else {
-            return Ok(false);
-        };
-        let at = Interchange {
-            place: slice.place,
-            bytes: slice.bytes,
-            header: &read.header,
-        };
-        let found = Found::Sendable(count_sets(&read.outline));
-        tell(self.style, out, &checked(&at, true, found));
-        Ok(true)
+        match self.sender.submit(alloc, slice.bytes) {
+            Ok(read) => {
+                let found = Found::Sendable(count_sets(&read.outline));
+                tell(
+                    self.style,
+                    out,
+                    &checked(&slice.with(&read.header), true, found),
+                );
+                Ok(true)
+            }
+            Err(fault) => {
+                if let SubmitFault::Memory = fault {
+                    return Err(AllocError);
+                }
+                refuse(alloc, self.style, out, &self.sender, slice, fault)?;
+                Ok(false)
+            }
+        }
     }
 
     ghost of_none = { λ s. refl };
+
+    ghost asked = { λ s interchanges t. Unit {0} };
+
+    ghost at_last = { λ s. tt };
 }
 
 /// Checks a transmission as its sender, a station that used no number yet: writes to `out` of each
@@ -295,4 +253,57 @@ pub fn run_check_as_sender<W: Write>(
         style,
     };
     inspect_all(alloc, &mut sender, style.look, input, out)
+}
+
+/// What is told of a file that was sent: what may not be submitted of it.
+#[derive(Drop)]
+struct Refused<'t> {
+    style: &'t Style<'t>,
+    told: Text,
+}
+
+impl Refusals for Refused<'_> {
+    fn tell(
+        &mut self,
+        alloc: Global,
+        sender: &Sender,
+        place: usize,
+        bytes: &[u8],
+        fault: SubmitFault,
+    ) -> Result<(), AllocError> {
+        refuse(
+            alloc,
+            self.style,
+            &mut self.told,
+            sender,
+            &Slice { place, bytes },
+            fault,
+        )
+    }
+}
+
+/// Reads what a sender submitted: the sender of the first interchange, with this hub, if it has one.
+/// What a station would refuse to submit isn't part of it, and is told to `out` below the file's name;
+/// the answer is whether there is none such.
+///
+/// An error is `RunFault::Write` or `RunFault::Memory`.
+pub fn read_sent<'a, W: Write>(
+    alloc: Global,
+    style: &Style<'a>,
+    hub: Option<Party>,
+    input: &'a [u8],
+    out: &mut W,
+) -> Result<(SentFile<'a>, bool), RunFault>
+    ensures { IfOk result (λ r. IsSent input.now r.1) }
+{
+    let told = Text::new(alloc, style.look);
+    let mut refused = Refused { style, told };
+    let read = SentFile::read(alloc, style.file, hub, input, &mut refused)?;
+    let mut text = Text::new(alloc, style.look);
+    if style.form == Form::Text && !refused.told.is_empty() {
+        say!(text; style.file, ":\n");
+    }
+    text.put_text(&refused.told);
+    write_last(text.whole()?, out)?;
+    Ok(read)
 }

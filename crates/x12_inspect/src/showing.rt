@@ -5,16 +5,15 @@ ghost use Rattle.x12_inspect.specs.Showing.{EndsAsShown};
 
 use crate::inspecting::{Inspector, Outcome, inspect_all};
 use crate::piece::{Filled, Ink, members, say};
-use crate::plain::line_ends;
 use crate::report::{tell, unreadable};
 use crate::slice::{Interchange, Slice};
 use crate::style::{Form, Style};
 use crate::text::Text;
-use crate::walk::{Compared, Placed, Walk};
 use std::alloc::{AllocError, Global};
 use std::io::Write;
 use x12_answering::RunFault;
 use x12_envelopes::read_header;
+use x12_segments::{Compared, Placed, Walk, line_ends};
 
 /// Adds what a trailer says beside what was counted, where they differ.
 fn say_compared(out: &mut Text, compared: &Compared<'_>) {
@@ -121,7 +120,7 @@ impl Contents<'_> {
 impl Inspector for Contents<'_> {
     ghost use Rattle.std.specs.Prelude.{refl};
     ghost use Rattle.std.specs.List.{list_all};
-    ghost use Rattle.x12_inspect.specs.Showing.{header_can_be_read};
+    ghost use Rattle.x12_segments.specs.Laying.{header_can_be_read};
 
     ghost all_right = { λ c interchanges. list_all header_can_be_read interchanges };
 
@@ -134,12 +133,7 @@ impl Inspector for Contents<'_> {
         let offset = self.next(slice.bytes.len());
         match read_header(slice.bytes) {
             Ok(header) => {
-                let at = Interchange {
-                    place: slice.place,
-                    bytes: slice.bytes,
-                    header: &header,
-                };
-                tell_shown(self.style, out, offset, &at);
+                tell_shown(self.style, out, offset, &slice.with(&header));
                 Ok(true)
             }
             Err(fault) => {
@@ -150,6 +144,10 @@ impl Inspector for Contents<'_> {
     }
 
     ghost of_none = { λ c. refl };
+
+    ghost asked = { λ c interchanges d. Unit {0} };
+
+    ghost at_last = { λ c. tt };
 }
 
 /// Shows the segments of a transmission with their places. All is right exactly where each header

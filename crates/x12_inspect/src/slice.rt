@@ -25,3 +25,18 @@ pub(crate) struct Interchange<'r, 'a> {
     pub header: &'r Header,
     ghost read: { header_of bytes.now ≡ Ok header.now },
 }
+
+impl<'a> Slice<'a> {
+    /// The interchange that it is, with its header.
+    pub(crate) fn with<'r>(&self, header: &'r Header) -> Interchange<'r, 'a>
+        requires { header_of self.now.bytes.now ≡ Ok header.now }
+        ensures bytes { result.bytes.now ≡ self.now.bytes.now }
+        ensures header { result.header.now ≡ header.now }
+    {
+        Interchange {
+            place: self.place,
+            bytes: self.bytes,
+            header,
+        }
+    }
+}

@@ -1,15 +1,15 @@
 //! What an interchange answers, in order: each TA1, and each set of its groups of acknowledgments,
 //! with what it means to the sender of a file.
 
-ghost use Rattle.std.specs.Prelude.{◌≡◌, map, IfOk};
+ghost use Rattle.std.specs.Prelude.{◌≡◌, [], ◌∷◌, map, IfOk, OnOk};
 ghost use Rattle.x12_envelopes.specs.Shape.{outline_view};
 ghost use Rattle.x12_acks.specs.Answer.{answer_view, answers_of};
+ghost use Rattle.x12_inspect.specs.Explaining.{answers_received, IsLeftBy, MayBeLeftBy};
 
-use crate::closing::Meaning;
-use crate::sent::SentFile;
 use std::alloc::{AllocError, Global};
 use x12_acks::{Answer, read_answers};
 use x12_envelopes::{Header, Outline, SetView};
+use x12_sent::{Meaning, SentFile};
 
 /// An answer, the set that says it, and what it means beside a file that was sent.
 #[derive(Drop)]
@@ -38,20 +38,35 @@ fn acknowledgment_sets<'r, 'a>(
     Ok(sets)
 }
 
-/// What an answer in an interchange with this header means to the sender of a file.
+/// What an answer in an interchange with this header means to the sender of a file; nothing, where it
+/// is to another party.
+fn meaning_to(
+    alloc: Global,
+    sent: &mut SentFile<'_>,
+    header: &Header,
+    answer: &Answer,
+) -> Result<Option<Meaning>, AllocError>
+    ensures { OnOk result (IsLeftBy (λ me. answers_received me header.now (answer_view answer.now ∷ []))
+        sent.old sent.new) }
+{
+    if !sent.is_sender(&header.receiver) {
+        return Ok(None);
+    }
+    Ok(Some(sent.tell(alloc, &header.sender, answer)?))
+}
+
+/// The same, where a file may be given.
 fn meaning_of(
     alloc: Global,
     sent: &mut Option<SentFile<'_>>,
     header: &Header,
     answer: &Answer,
-) -> Result<Option<Meaning>, AllocError> {
+) -> Result<Option<Meaning>, AllocError>
+    ensures { OnOk result (MayBeLeftBy (λ me. answers_received me header.now (answer_view answer.now ∷ []))
+        sent.old sent.new) }
+{
     match sent {
-        Some(sent) => {
-            if !sent.is_sender(&header.receiver) {
-                return Ok(None);
-            }
-            Ok(Some(sent.tell(alloc, &header.sender, answer)?))
-        }
+        Some(sent) => meaning_to(alloc, sent, header, answer),
         None => Ok(None),
     }
 }
@@ -70,8 +85,11 @@ pub(crate) fn read_told<'r, 'a>(
     read: &'r Outline<'a>,
     sent: &mut Option<SentFile<'_>>,
 ) -> Result<Vec<Told<'r, 'a>>, AllocError>
-    ensures { IfOk result (λ v. map (λ t. answer_view t.answer) v.items
+    ensures answers { IfOk result (λ v. map (λ t. answer_view t.answer) v.items
         ≡ answers_of header.now.delims (outline_view header.now.delims read.now)) }
+    ensures left { OnOk result (MayBeLeftBy (λ me. answers_received me header.now
+        (answers_of header.now.delims (outline_view header.now.delims read.now)))
+        sent.old sent.new) }
 {
     let answers = read_answers(alloc, read, &header.delims)?;
     let sets = acknowledgment_sets(alloc, read)?;

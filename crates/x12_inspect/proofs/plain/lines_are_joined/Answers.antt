@@ -1,5 +1,0 @@
-use Rattle.x12_inspect.proofs.PlainLemmas.{lines_joined}
-use Rattle.x12_inspect.proofs.plain.lines_are_joined.Goals as goal
-
-pub returns : goal.returns
-returns c = record { law = lines_joined }

@@ -1,0 +1,4 @@
+pub mod TextsLemmas
+pub mod PlainLemmas
+pub mod LayingLemmas
+pub mod WalkLemmas

@@ -1,0 +1,3 @@
+pub mod SenderLemmas
+pub mod SubmitterLemmas
+pub mod ClosingLemmas

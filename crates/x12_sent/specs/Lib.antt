@@ -1,0 +1,4 @@
+pub mod Sender
+pub mod Closing
+pub mod Sent
+pub mod Submitter
