@@ -1,9 +1,10 @@
 #!/usr/bin/env python3
 """Measures records in tables of a file beside the same statements in C over SQLite: bench/records.py [EVENTS].
 
-Builds the program of checks/database_file, proved, over the libraries as they are proved, and bench/records/main.c with the C
-compiler over libsqlite3 (with its header). Tells instructions of an event by valgrind, without the kernel's, and
-microseconds of the processor, the kernel's too.
+Builds the program of checks/database_file, proved, over the libraries as they are proved; bench/records/statements, which runs
+the statements alone over the toolchain's SQLite, without the look-up in front of an arrival and a deposit; and
+bench/records/main.c with the C compiler over libsqlite3 (with its header). Tells instructions of an event by valgrind, without
+the kernel's, and microseconds of the processor, the kernel's too.
 """
 import os
 import re
@@ -42,6 +43,16 @@ def build(room):
     return f"{room}/program"
 
 
+def build_statements(room):
+    """Builds the program of the statements alone, proved."""
+    crate = Crate(TOP, "statements", {"statements": OF_KIT})
+    crate.folder, crate.root = f"{room}/statements", "src/main.rt"
+    os.makedirs(f"{crate.folder}/src")
+    shutil.copyfile(f"{HERE}/records/statements/main.rattle", f"{crate.folder}/src/main.rt")
+    crate.build(f"{room}/alone")
+    return f"{room}/alone"
+
+
 def ran(words, script, room):
     """Processor seconds of a run over a new file, and what it says on standard error."""
     for name in os.listdir(room):
@@ -70,15 +81,16 @@ def measured(words, script, events, room):
 def main():
     events = int(sys.argv[1]) if len(sys.argv) > 1 else 10_000
     with tempfile.TemporaryDirectory(prefix="records-") as room:
-        ours, theirs, file = build(room), f"{room}/theirs", f"{room}/new.db"
+        ours, alone, theirs, file = build(room), build_statements(room), f"{room}/theirs", f"{room}/new.db"
         subprocess.run(["cc", "-O2", "-o", theirs, f"{HERE}/records/main.c", "-lsqlite3"], check=True)
         for kind, (program, first, line) in KINDS.items():
             script = lambda count: "\n".join([first, *map(line, range(1, count + 1))]) + "\n"
-            of_ours = measured(lambda _: [ours, program, "new", file], script, events, room)
-            of_theirs = measured(lambda count: [theirs, kind, str(count), file], lambda _: "", events, room)
-            ratios = [a / b for a, b in zip(of_ours, of_theirs)]
-            print(f"{kind}: {of_ours[0]:,.0f} instructions, {of_ours[1]:.0f} us; C {of_theirs[0]:,.0f}, {of_theirs[1]:.0f} us; "
-                  f"ratios {ratios[0]:.2f}, {ratios[1]:.2f}", flush=True)
+            told = {"ours": measured(lambda _: [ours, program, "new", file], script, events, room)}
+            for name, its in (("its statements alone", alone), ("C", theirs)):
+                told[name] = measured(lambda count: [its, kind, str(count), file], lambda _: "", events, room)
+            for name, (counted, took) in told.items():
+                of_c = f"{counted / told['C'][0]:.2f} and {took / told['C'][1]:.2f} times C"
+                print(f"{kind}, {name}: {counted:,.0f} instructions, {took:.0f} us; {of_c}", flush=True)
 
 
 if __name__ == "__main__":

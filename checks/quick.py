@@ -91,7 +91,8 @@ def over_programs():
             return [(str(why), 0, 1)]
         # what isn't optimized takes longer
         os.environ["CASE_SECONDS"] = "120"
-        return [ran([f"checks/{name}"], f"{room}/top") for name in OF_PROGRAMS]
+        with ThreadPoolExecutor(processors()) as lanes:
+            return list(lanes.map(lambda name: ran([f"checks/{name}"], f"{room}/top"), OF_PROGRAMS))
 
 
 def main():
