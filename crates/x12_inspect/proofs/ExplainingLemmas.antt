@@ -1,5 +1,5 @@
 -- Lemmas on what answers leave of a file that was sent.
-use Rattle.std.proofs.Common.{◌≡◌, ◌≢◌, ℕ, Bool, true, false, List, [], ◌∷◌, ◌++◌, map, flat_map, Option, Some, None, Ok, Err, if◌then◌else◌, refl, ap, ◌∙◌}
+use Rattle.std.proofs.Common.{◌≡◌, ◌≢◌, ℕ, false, List, [], ◌∷◌, ◌++◌, flat_map, Option, Some, None, Ok, Err, refl, ap, ◌∙◌}
 use Rattle.x12_envelopes.specs.declared.header.Header.{Header}
 use Rattle.x12_envelopes.specs.declared.header.HeaderFault.{HeaderFault}
 use Rattle.x12_envelopes.specs.declared.party.Party.{Party}
@@ -8,13 +8,12 @@ use Rattle.x12_envelopes.specs.declared.shape.OutlineFault.TheVariants.{Memory}
 use Rattle.x12_envelopes.specs.Header.{header_of}
 use Rattle.x12_envelopes.specs.Outline.{outline_of}
 use Rattle.x12_envelopes.specs.Shape.{Interchange, GivesUnlessMemory, outline_view}
-use Rattle.x12_judge.specs.Agreement.{is_same_party}
 use Rattle.x12_acks.specs.Answer.{Acknowledgment, answers_of}
 use Rattle.x12_outbound.specs.Ledger.{OutboundLedger}
 use Rattle.x12_sent.specs.declared.sent.SentFile.{SentFile}
-use Rattle.x12_sent.specs.Closing.{IsClosedBy, AreClosedBy}
+use Rattle.x12_sent.specs.Closing.{AreClosedBy}
 use Rattle.x12_sent.specs.Sent.{file_sender, file_ledgers}
-use Rattle.x12_inspect.specs.Explaining.{can_be_read, from_party, answers_received, answers_to_party, IsLeftBy, MayBeLeftBy}
+use Rattle.x12_inspect.specs.Explaining.{can_be_read, answers_received, answers_to_party, IsLeftBy, MayBeLeftBy}
 
 -- answers that were told, and then more
 told_on : (u v w : OutboundLedger) (xs ys : List (Party × Acknowledgment)) → AreClosedBy u xs v → AreClosedBy v ys w → AreClosedBy u (xs ++ ys) w
@@ -36,43 +35,6 @@ may_left_on f g all None (Some b) c is first more = absurd first
 may_left_on f g all (Some a) None c is first more = absurd first
 may_left_on f g all (Some a) (Some b) None is first more = absurd more
 may_left_on f g all (Some a) (Some b) (Some c) is first more = left_on f g all a b c is first more
-
--- no answer leaves all as it is
-pub left_none : (f : Party → List (Party × Acknowledgment)) (s : Option SentFile) → ((me : Party) → f me ≡ []) → MayBeLeftBy f s s
-left_none f None is = tt
-left_none f (Some s) is = record { sender = refl; whole = refl; told = rw (is (file_sender s)) refl }
-
--- an answer more, and none
-received_on : (h : Header) (a : Acknowledgment) (more : List Acknowledgment) (me : Party) → answers_received me h (a ∷ more) ≡ answers_received me h (a ∷ []) ++ answers_received me h more
-received_on h a more me = by (is_same_party me h.receiver)
-  where
-    by : (b : Bool) → (if b then map (from_party h.sender) (a ∷ more) else []) ≡ (if b then map (from_party h.sender) (a ∷ []) else []) ++ (if b then map (from_party h.sender) more else [])
-    by true = refl
-    by false = refl
-
-pub received_none : (h : Header) (me : Party) → answers_received me h [] ≡ []
-received_none h me = by (is_same_party me h.receiver)
-  where
-    by : (b : Bool) → (if b then map (from_party h.sender) [] else []) ≡ []
-    by true = refl
-    by false = refl
-
--- an answer to another party, and one to the sender
-pub to_another : (s : SentFile) (h : Header) (a : Acknowledgment) → is_same_party (file_sender s) h.receiver ≡ false → IsLeftBy (λ me. answers_received me h (a ∷ [])) s s
-to_another s h a other = record { sender = refl; whole = refl; told = rw other refl }
-
-pub to_sender : (s t : SentFile) (h : Header) (a : Acknowledgment) → is_same_party (file_sender s) h.receiver ≡ true →
-    file_sender t ≡ file_sender s → (file_ledgers t).whole ≡ (file_ledgers s).whole → IsClosedBy (file_ledgers s).left h.sender a (file_ledgers t).left → IsLeftBy (λ me. answers_received me h (a ∷ [])) s t
-to_sender s t h a mine sender whole told = record {
-  sender = sender;
-  whole = whole;
-  told = rw mine (record { left = (file_ledgers t).left; told = told; behind = refl });
-}
-
--- an answer more of an interchange
-pub one_told : (h : Header) (a : Acknowledgment) (more : List Acknowledgment) (x y z : Option SentFile) → MayBeLeftBy (λ me. answers_received me h (a ∷ [])) x y →
-    MayBeLeftBy (λ me. answers_received me h more) y z → MayBeLeftBy (λ me. answers_received me h (a ∷ more)) x z
-one_told h a more x y z first rest = may_left_on (λ me. answers_received me h (a ∷ [])) (λ me. answers_received me h more) (λ me. answers_received me h (a ∷ more)) x y z (received_on h a more) first rest
 
 -- what an interchange answers, where its header or its outline can't be read, and where they can
 pub no_header : (bytes : List ℕ) (fault : HeaderFault) → header_of bytes ≡ Err fault → (me : Party) → answers_to_party me bytes ≡ []

@@ -22,14 +22,14 @@ use Rattle.sql_rows.specs.Keyed.{with_id}
 use Rattle.x12_envelopes.specs.declared.party.Party.{Party}
 use Rattle.x12_station.specs.Durable.{IsHistoryOf}
 use Rattle.x12_station.specs.Stored.{Stored, origin_of}
-use Rattle.x12_records.specs.declared.station_committing.NextRows.{NextRows}
-use Rattle.x12_records.specs.Left.{IsStations, AreLeft}
-use Rattle.x12_records.specs.StationAdopt.{AreFoundAtStation}
-use Rattle.x12_records.specs.StationContent.{content_of, IsValid}
-use Rattle.x12_records.specs.StationPlan.{HoldsRows}
-use Rattle.x12_records.specs.StationSchema.{station_schema}
-use Rattle.x12_records.specs.StationTables.{numbers_row}
+use Rattle.x12_station_records.specs.StationAdopt.{AreFoundAtStation}
+use Rattle.x12_station_records.specs.StationContent.{content_of, IsValid}
+use Rattle.x12_station_records.specs.StationPlan.{HoldsRows}
+use Rattle.x12_station_records.specs.StationSchema.{station_schema}
+use Rattle.x12_station_records.specs.StationTables.{numbers_row}
+use Rattle.x12_station_records.specs.declared.station_committing.NextRows.{NextRows}
 use Rattle.x12_records.proofs.WrittenLemmas.{written_prop, history_of}
+use Rattle.x12_records.specs.Left.{AreLeft, IsStations}
 
 -- what `Unknown` and `Wary` name
 abbrev pub nothing : Image

@@ -11,13 +11,12 @@ use Rattle.x12_profile.specs.Interchange.{Bytes}
 use Rattle.x12_station.specs.Durable.{IsHistoryOf, IsOwnSubmission, IsFiledRightly, IsAnsweredRightly, fared_entries, items_of}
 use Rattle.x12_station.specs.History.{submissions}
 use Rattle.x12_station.specs.Stored.{Origin, Stored, StoredArrival, IsSound, origin_of, entries}
+use Rattle.x12_station_records.proofs.StationContentLemmas.{fate_back}
+use Rattle.x12_station_records.specs.StationContent.{fate_numbered}
+use Rattle.x12_station_records.specs.StationTables.{fate_number}
 use Rattle.x12_records.specs.Left.{IsWritten}
-use Rattle.x12_records.specs.StationContent.{fate_numbered}
-use Rattle.x12_records.specs.StationTables.{fate_number}
-use Rattle.x12_records.proofs.StationContentLemmas.{fate_back}
 
 -- Codes of what records hold, as tuples of numbers and lists of them.
-
 abbrev coded_bytes : Coded (List ℕ)
 coded_bytes = coded_list coded_ℕ
 

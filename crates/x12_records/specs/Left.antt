@@ -7,10 +7,10 @@ use Rattle.x12_profile.specs.X12.{x12}
 use Rattle.x12_station.specs.Durable.{IsOwnSubmission, IsFiledRightly, IsAnsweredRightly, fared_entries, items_of}
 use Rattle.x12_station.specs.History.{submissions, postings}
 use Rattle.x12_station.specs.Stored.{Stored, entries}
-use Rattle.x12_records.specs.declared.station_committing.NextRows.{NextRows}
-use Rattle.x12_records.specs.StationContent.{content_of}
-use Rattle.x12_records.specs.StationPlan.{HoldsRows}
-use Rattle.x12_records.specs.StationSchema.{station_schema}
+use Rattle.x12_station_records.specs.StationContent.{content_of}
+use Rattle.x12_station_records.specs.StationPlan.{HoldsRows}
+use Rattle.x12_station_records.specs.StationSchema.{station_schema}
+use Rattle.x12_station_records.specs.declared.station_committing.NextRows.{NextRows}
 
 -- what an open finds in files that hold this
 pub record IsFoundIn (image : Image) (db : Trees) : Type 0 where

@@ -10,9 +10,9 @@ ghost use Rattle.x12_world.specs.Outsider.{OutsidersMoveNothing};
 ghost use Rattle.x12_world.specs.Ran.{RanAll, StoppedAt, outcome_view};
 ghost use Rattle.x12_world.specs.Reach.{Onward, AlwaysFollows, OfBoth, ReachedFacts};
 
-use crate::records::SqliteHubRecords;
-use crate::station_records::SqliteRecords;
 use sqlite::Alter;
+use x12_hub_records::SqliteHubRecords;
+use x12_station_records::SqliteRecords;
 use x12_world::{Event, Outcome, Refused, World};
 
 /// A network whose nodes keep their records in SQLite tables: each station in a database of its own,

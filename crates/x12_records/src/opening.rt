@@ -11,13 +11,10 @@ ghost use Rattle.sqlite_wal.specs.Recovery.{Image};
 ghost use Rattle.x12_envelopes.specs.Party.{is_plain_party};
 ghost use Rattle.x12_hub.specs.Stored.{hub_of};
 ghost use Rattle.x12_station.specs.Opened.{opened};
-ghost use Rattle.x12_records.specs.HubContent.{hub_content_of};
+ghost use Rattle.x12_hub_records.specs.HubContent.{hub_content_of};
+ghost use Rattle.x12_station_records.specs.StationContent.{content_of};
 ghost use Rattle.x12_records.specs.Left.{IsFoundIn, IsStations, AreLeft};
-ghost use Rattle.x12_records.specs.StationContent.{content_of};
 
-use crate::fault::RecordsFault;
-use crate::records::SqliteHubRecords;
-use crate::station_records::SqliteRecords;
 use sqlite::{Alter, Connection, Files, Options};
 use sqlite_disk::{Disk, Start, Wary};
 use sqlite_std_file::FileFrom;
@@ -26,7 +23,10 @@ use std::alloc::Global;
 use thiserror::Error;
 use x12_envelopes::Party;
 use x12_hub::{Hub, HubFault};
+use x12_hub_records::SqliteHubRecords;
 use x12_station::{Records, Station, StationFault};
+use x12_station_records::SqliteRecords;
+use x12_tables::RecordsFault;
 
 /// A database in files that held what `S` names.
 pub type FilesFrom<S> = FileStore<FileFrom<S>>;

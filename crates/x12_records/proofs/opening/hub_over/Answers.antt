@@ -4,7 +4,7 @@ use Rattle.sqlite.specs.Effect.{Database}
 use Rattle.sqlite.specs.Held.{state}
 use Rattle.sqlite.specs.State.{HasCleanDisk}
 use Rattle.x12_hub.specs.Stored.{hub_of}
-use Rattle.x12_records.specs.HubContent.{hub_content_of}
+use Rattle.x12_hub_records.specs.HubContent.{hub_content_of}
 use Rattle.x12_records.proofs.opening.hub_over.Goals as goal
 
 pub open-requires-clause-written : goal.open-requires-clause-written

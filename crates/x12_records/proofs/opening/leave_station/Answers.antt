@@ -2,7 +2,7 @@ use Rattle.std.proofs.Common.{arith, refl, subst}
 use Rattle.sqlite.specs.Files.{file_state}
 use Rattle.sqlite.specs.State.{HasCleanDisk}
 use Rattle.sqlite_trees.proofs.Doubt.{clean_of}
-use Rattle.x12_records.specs.StationContent.{content_of}
+use Rattle.x12_station_records.specs.StationContent.{content_of}
 use Rattle.x12_records.proofs.LeftLemmas.{next_left, left_files}
 use Rattle.x12_records.proofs.WrittenLemmas.{written_of}
 use Rattle.x12_records.proofs.opening.leave_station.Goals as goal

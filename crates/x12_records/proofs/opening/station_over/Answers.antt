@@ -5,7 +5,7 @@ use Rattle.sqlite.specs.Effect.{Database}
 use Rattle.sqlite.specs.Held.{state}
 use Rattle.sqlite.specs.State.{HasCleanDisk}
 use Rattle.x12_station.specs.Opened.{opened}
-use Rattle.x12_records.specs.StationContent.{content_of}
+use Rattle.x12_station_records.specs.StationContent.{content_of}
 use Rattle.x12_records.proofs.LeftLemmas.{found_history}
 use Rattle.x12_records.proofs.opening.station_over.Goals as goal
 

@@ -4,7 +4,7 @@ use Rattle.sqlite.specs.Effect.{Database}
 use Rattle.sqlite.specs.Held.{state}
 use Rattle.sqlite.specs.State.{HasCleanDisk}
 use Rattle.x12_station.specs.Durable.{IsHistoryOf}
-use Rattle.x12_records.specs.StationContent.{content_of}
+use Rattle.x12_station_records.specs.StationContent.{content_of}
 use Rattle.x12_records_tests.proofs.again.opened_again.Goals as goal
 
 -- what the station left is what is found, so that a station of its party and hubs wrote it

@@ -3,7 +3,7 @@ use Rattle.sqlite.proofs.StateLemmas.{clean_if_open}
 use Rattle.sqlite.specs.Effect.{Database}
 use Rattle.sqlite.specs.Held.{state}
 use Rattle.sqlite.specs.State.{HasCleanDisk}
-use Rattle.x12_records.specs.HubContent.{hub_content_of}
+use Rattle.x12_hub_records.specs.HubContent.{hub_content_of}
 use Rattle.x12_records_tests.proofs.hub.taken_over.Goals as goal
 
 pub open-requires-clause-written : goal.open-requires-clause-written

@@ -1,1 +1,0 @@
--- A party's seventeen bytes, as a station's tables put them together.

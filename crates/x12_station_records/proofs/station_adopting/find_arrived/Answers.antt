@@ -1,0 +1,37 @@
+use Rattle.std.proofs.Common.{subst}
+use Rattle.sqlite.specs.Held.{state}
+use Rattle.x12_tables.proofs.FindsLemmas.{finds_tested}
+use Rattle.x12_tables.proofs.TakesLemmas.{query_taken, takes_tested}
+use Rattle.x12_tables.specs.Adopt.{ObeysSchema}
+use Rattle.x12_tables.specs.declared.fault.TableFault.TheVariants.{Memory}
+use Rattle.x12_station_records.proofs.StationAdoptReads.{arrived_asks, finds_arrived, arrived_reads}
+use Rattle.x12_station_records.proofs.StationTaken.{arrived_taken}
+use Rattle.x12_station_records.specs.StationAdopt.{AreArrivals, FindsArrived, IsArrivalRow}
+use Rattle.x12_station_records.specs.StationSchema.{station_schema}
+use Rattle.x12_station_records.specs.StationTaken.{HoldsStation, AreChained}
+use Rattle.std.proofs.lemmas.Result.{IfOk-weaker}
+use Rattle.std.proofs.Common.{sym}
+use Rattle.x12_station_records.proofs.station_adopting.find_arrived.Goals as goal
+
+pub look-requires : goal.look-requires
+look-requires g c = arrived_asks
+
+pub returns-clause-finds : goal.returns-clause-finds
+returns-clause-finds g c =
+    let old = state g.S.Store c.args.conn.now in
+    let new = state g.S.Store c.look.new.conn in
+    let rows = c.in_ok-rows.rows in
+    finds_tested (λ db rows. ObeysSchema station_schema db) (λ db seqs. FindsArrived db seqs.items) rows c.arrivals_in_rows.result old new c.in_ok-rows.ensures.ours
+    (λ clean. IfOk-weaker c.arrivals_in_rows.result _ _ (λ x are. finds_arrived old new (c.in_ok-rows.ensures.ours.found clean).0 rows.items (c.in_ok-rows.ensures.shown clean) x.items (subst (AreArrivals 0 x.items) c.deref.ensures.value are)) c.arrivals_in_rows.ensures.are)
+
+pub returns-clause-taken : goal.returns-clause-taken
+returns-clause-taken g c =
+    let old = state g.S.Store c.args.conn.now in
+    let new = state g.S.Store c.look.new.conn in
+    let rows = c.in_ok-rows.rows.items in
+    takes_tested HoldsStation _ Memory c.arrivals_in_rows.result old new
+    (λ clean such. subst (AreChained IsArrivalRow 0) (sym c.deref.ensures.value) (arrived_taken old new such rows (c.in_ok-rows.ensures.shown clean))) c.arrivals_in_rows.ensures.taken
+
+pub returns-in_err-rows-clause-taken : goal.returns-in_err-rows-clause-taken
+returns-in_err-rows-clause-taken g c =
+    query_taken HoldsStation station_schema _ _ _ _ _ arrived_reads (state g.S.Store c.args.conn.now) (state g.S.Store c.look.new.conn) c.in_err-rows.field-0.0 c.from_residual.result c.from_residual.ensures.1 (λ such. such.holds.has.schema) c.in_err-rows.ensures.fails

@@ -1,0 +1,41 @@
+use Rattle.std.proofs.Common.{◌∙◌, Ok, ap, sym}
+use Rattle.sqlite.specs.Held.{state}
+use Rattle.x12_outbound.specs.Hubs.{hubs_of}
+use Rattle.x12_tables.proofs.FindsLemmas.{finds_tested}
+use Rattle.x12_tables.proofs.TakesLemmas.{takes_failed, takes_never}
+use Rattle.x12_tables.specs.Fault.{fault_of_table}
+use Rattle.x12_tables.specs.declared.fault.TableFault.TheVariants.{Memory}
+use Rattle.x12_station_records.proofs.StationFoundLemmas.{origin_found}
+use Rattle.x12_station_records.specs.StationAdopt.{FindsNumbers, FindsOwn}
+use Rattle.x12_station_records.specs.StationNumbers.{KeptNumbers}
+use Rattle.x12_station_records.specs.StationTaken.{HoldsStation, HoldsStationOf}
+use Rattle.x12_station.specs.Stored.{origin_of}
+use Rattle.x12_tables.specs.declared.fault.RecordsFault.TheVariants as fault
+use Rattle.x12_station_records.proofs.station_adopting.find_own.Goals as goal
+
+pub returns-clause-finds : goal.returns-clause-finds
+returns-clause-finds g c =
+    let old = state g.S.Store c.args.conn.now in
+    let new = state g.S.Store c.find_numbers.new.conn in
+    let numbers = c.in_ok-numbers.numbers in
+    finds_tested FindsNumbers (FindsOwn c.args.party.now (hubs_of c.args.hubs.now)) numbers (Ok numbers) old new c.in_ok-numbers.ensures.finds
+    (λ clean. ((c.in_ok-numbers.ensures.finds.found clean).0, c.in_ok-test_owner.ensures.own))
+
+pub returns-in_err-test_owner-clause-other : goal.returns-in_err-test_owner-clause-other
+returns-in_err-test_owner-clause-other g c found wanted is clean own =
+    let old = state g.S.Store c.args.conn.now in
+    let said = origin_found old.now c.in_ok-numbers.numbers (c.in_ok-numbers.ensures.finds.found clean).0 in
+    c.in_err-test_owner.ensures.other (sym (ap (λ (k : KeptNumbers). k.origin) said) ∙ own)
+
+pub returns-in_err-numbers-clause-taken : goal.returns-in_err-numbers-clause-taken
+returns-in_err-numbers-clause-taken g c =
+    takes_failed (HoldsStationOf (origin_of c.args.party.now (hubs_of c.args.hubs.now))) HoldsStation Memory fault.Memory c.in_err-numbers.field-0.0 _ c.from_residual.result (state g.S.Store c.args.conn.now) (state g.S.Store c.find_numbers.new.conn) c.from_residual.ensures.1
+    (λ f is memory. is ∙ ap fault_of_table memory) (λ such. such.0) c.in_err-numbers.ensures.taken
+
+pub returns-in_err-test_owner-clause-taken : goal.returns-in_err-test_owner-clause-taken
+returns-in_err-test_owner-clause-taken g c =
+    let old = state g.S.Store c.args.conn.now in
+    takes_never (HoldsStationOf (origin_of c.args.party.now (hubs_of c.args.hubs.now))) fault.Memory _ old (state g.S.Store c.find_numbers.new.conn)
+    (λ clean such.
+    let said = origin_found old.now c.in_ok-numbers.numbers (c.in_ok-numbers.ensures.finds.found clean).0 in
+    c.in_err-test_owner.ensures.other (sym (ap (λ (k : KeptNumbers). k.origin) said) ∙ such.1))

@@ -1,0 +1,152 @@
+-- Which rows of a station's tables are taken over, and what a station left.
+use Rattle.std.specs.Prelude.{◌≡◌, ◌≢◌, ◌⊎◌, ◌<◌, ◌≤◌, ◌+◌, ◌^◌, ℕ, zero, suc, pos, false, List, [], ◌∷◌, map, take, drop, length}
+use Rattle.std.specs.List.{AllByRecursion}
+use Rattle.sqlite.specs.declared.types.Value.{Value}
+use Rattle.sqlite.specs.declared.types.Value.TheVariants.{Null, Int}
+use Rattle.sqlite.specs.Effect.{Database}
+use Rattle.sqlite.specs.Order.{Row, column}
+use Rattle.sqlite.specs.State.{State}
+use Rattle.sql_rows.specs.Keyed.{number_in}
+use Rattle.x12_numbers.specs.Book.{Numbers}
+use Rattle.x12_numbers.specs.declared.book.TheConstants.{MAX_CONTROL_NUMBER}
+use Rattle.x12_station.specs.Stored.{Origin, IsSound}
+use Rattle.x12_tables.specs.Adopt.{IsLong, IsAtRest}
+use Rattle.x12_tables.specs.OneRow.{IsFirstVersion}
+use Rattle.x12_tables.specs.Party.{IsParty, bytes_in}
+use Rattle.x12_station_records.specs.StationAdopt.{IsSetNumber, IsFate, IsNumber, AreOfOne, set_read, AreOfAll}
+use Rattle.x12_station_records.specs.StationAgreed.{AreKept, pair_shown}
+use Rattle.x12_station_records.specs.StationContent.{agreements_of, content_of}
+use Rattle.x12_station_records.specs.StationGroups.{StandBehind, no_set, set_shown}
+use Rattle.x12_station_records.specs.StationNumbers.{numbers_kept_of, KeptNumbers}
+use Rattle.x12_station_records.specs.StationPlan.{HoldsRows}
+use Rattle.x12_station_records.specs.declared.station_committing.NextRows.{NextRows}
+
+-- a value is a control number that can be used, or 0
+abbrev pub IsControlNumber : Value → Type 0
+IsControlNumber v = (n : ℕ) × (v ≡ Int (pos n)) × (n ≤ MAX_CONTROL_NUMBER)
+
+-- a row of all columns tells whose the records are
+pub record TellsOwner (r : Row) : Type 0 where
+  pub party : IsParty (column r 2)
+  pub hub : IsParty (column r 3)
+  pub other : (column r 4 ≡ Null) ⊎ IsParty (column r 4)
+  pub noted : IsLong (column r 9)
+  pub era : IsLong (column r 10)
+
+-- a row of all columns has numbers of their widths
+pub record IsNumbersRow (r : Row) : Type 0 where
+  pub owner : TellsOwner r
+  pub icn : IsControlNumber (column r 5)
+  pub gcn : IsControlNumber (column r 6)
+  pub seq : (n : ℕ) × (column r 7 ≡ Int (pos n)) × (n < 2 ^ 63)
+  pub handed : IsLong (column r 8)
+
+-- there is one such row, of version 1
+abbrev pub IsOneNumbersRow : List Row → Type 0
+IsOneNumbersRow rows = IsFirstVersion rows × AllByRecursion IsNumbersRow rows
+
+-- a row of a partner, GS01 and ST01 has a party and codes of their widths
+pub record HasPair (r : Row) : Type 0 where
+  pub partner : IsParty (column r 0)
+  pub functional : length (bytes_in (column r 1)) ≡ 2
+  pub set : length (bytes_in (column r 2)) ≡ 3
+
+-- such rows are those of agreements, one for a partner and each pair once
+pub record ArePairsKept (rows : List Row) : Type 0 where
+  pub pairs : AllByRecursion HasPair rows
+  pub kept : AreKept (agreements_of (map pair_shown rows))
+
+-- the rows of a table by these, each as the one before allows
+abbrev pub AreChained : {X : Type 0} → (X → X → Row → Type 0) → X → List Row → Type 0
+AreChained P last [] = Unit {0}
+AreChained P last (r ∷ rows) = (x : _) × P last x r × AreChained P x rows
+
+-- a row's columns of groups and transaction sets have their widths
+pub record HasSetRow (r : Row) : Type 0 where
+  pub group : IsNumber (column r 0)
+  pub place : IsNumber (column r 1)
+  pub functional : length (bytes_in (column r 2)) ≡ 2
+  pub gcn : IsNumber (column r 3)
+  pub number : IsSetNumber (column r 4)
+  pub fate : IsFate (column r 5)
+  pub icn : IsNumber (column r 6)
+
+-- the rows are those of groups, each set behind the one before
+pub record AreGroupRows (rows : List Row) : Type 0 where
+  pub wide : AllByRecursion HasSetRow rows
+  pub stand : StandBehind no_set (map (set_shown 0) rows)
+
+-- the first row isn't that of this submission
+abbrev pub IsOther : ℕ → List Row → Type 0
+IsOther icn [] = Unit {0}
+IsOther icn (r ∷ rows) = number_in (column r 6) ≢ icn
+
+-- the numbers rise, from above the first
+abbrev pub AreAbove : ℕ → List ℕ → Type 0
+AreAbove last [] = Unit {0}
+AreAbove last (n ∷ ns) = (last < n) × AreAbove n ns
+
+-- rows of the transaction sets of one submission, of their widths
+pub record AreRowsOfOne (book : Numbers) (icn least : ℕ) (rows : List Row) : Type 0 where
+  pub wide : AllByRecursion HasSetRow rows
+  pub next : ℕ
+  pub one : AreOfOne book icn least next (map set_read rows)
+
+-- so many rows at the front are those of one submission, the next one isn't
+pub record BeginWithOne (book : Numbers) (icn least n next : ℕ) (rows : List Row) : Type 0 where
+  pub one : AreOfOne book icn least next (map set_read (take n rows))
+  pub other : IsOther icn (drop n rows)
+
+-- rows of the transaction sets of these submissions, of their widths
+pub record AreRowsOfAll (book : Numbers) (icns : List ℕ) (rows : List Row) : Type 0 where
+  pub wide : AllByRecursion HasSetRow rows
+  pub above : AreAbove 0 icns
+  pub all : AreOfAll book 0 icns (map set_read rows)
+
+-- what is left of the numbers of submissions and of first arrivals are so many numbers, from this one
+-- on, each the first one left
+abbrev pub AreInTurn : ℕ → ℕ → List ℕ → List ℕ → Type 0
+AreInTurn zero next sent arrived = (sent ≡ []) × (arrived ≡ [])
+AreInTurn (suc left) next sent arrived =
+    ((rest : List ℕ) × (sent ≡ next ∷ rest) × AreInTurn left (next + 1) rest arrived)
+    ⊎ ((rest : List ℕ) × (arrived ≡ next ∷ rest) × ((more : List ℕ) → sent ≢ next ∷ more)
+    × AreInTurn left (next + 1) sent rest)
+
+-- the tables hold sound records of a station
+pub record HoldsStation (db : Database) : Type 0 where
+  pub next : NextRows
+  pub holds : HoldsRows next db (content_of db.trees)
+  pub sound : IsSound (content_of db.trees)
+
+-- the same, of this origin
+abbrev pub HoldsStationOf : Origin → Database → Type 0
+HoldsStationOf o db = HoldsStation db × ((content_of db.trees).origin ≡ o)
+
+-- the same, with these numbers
+abbrev pub HoldsStationBy : KeptNumbers → Database → Type 0
+HoldsStationBy n db = HoldsStation db × (numbers_kept_of (content_of db.trees) ≡ n)
+
+-- the same, with these last control numbers
+abbrev pub HoldsBooked : Numbers → Database → Type 0
+HoldsBooked book db = HoldsStation db × ((content_of db.trees).book ≡ book)
+
+-- the same, with submissions of these control numbers
+abbrev pub HoldsSubmitted : Numbers → List ℕ → Database → Type 0
+HoldsSubmitted book icns db =
+    HoldsBooked book db × (map (λ r. r.icn) (content_of db.trees).submitted ≡ icns)
+
+-- the same, with so many submissions and first arrivals, and with submissions of these numbers
+abbrev pub HoldsInTurn : ℕ → List ℕ → Database → Type 0
+HoldsInTurn last seqs db = HoldsStation db × ((content_of db.trees).seq ≡ last)
+    × (map (λ r. r.seq) (content_of db.trees).submitted ≡ seqs)
+
+-- the same, with so many postings handed over
+abbrev pub HoldsHanded : ℕ → Database → Type 0
+HoldsHanded handed db = HoldsStation db × ((content_of db.trees).handed ≡ handed)
+
+-- a station left sound records of this origin in a database that is open, in no transaction, and
+-- without a limit of steps
+pub record WereLeftByStation (o : Origin) (s : State) : Type 0 where
+  pub ready : IsAtRest s
+  pub outside : s.in_transaction ≡ false
+  pub holds : HoldsStationOf o s.now

@@ -1,0 +1,11 @@
+pub mod AllRows
+pub mod PartyLemmas
+pub mod CreateLemmas
+pub mod KeyLemmas
+pub mod FindsLemmas
+pub mod FirstLemmas
+pub mod OneRowLemmas
+pub mod ReadLemmas
+pub mod RowLemmas
+pub mod StoredLemmas
+pub mod TakesLemmas

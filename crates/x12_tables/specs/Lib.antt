@@ -1,0 +1,10 @@
+pub mod Adopt
+pub mod Fault
+pub mod First
+pub mod Change
+pub mod Party
+pub mod Schema
+pub mod Law
+pub mod Layout
+pub mod OneRow
+pub mod Read

@@ -1,0 +1,107 @@
+//! Values in rows.
+
+ghost use Rattle.std.specs.Prelude.{◌≡◌, ◌<◌, ◌^◌, pos, IfOk, [], ◌∷◌, OnOk, IsOk};
+ghost use Rattle.sqlite.specs.Order.{column};
+ghost use Rattle.sqlite.specs.declared.error.Error.TheVariants.{SqliteFailure};
+ghost use Rattle.sqlite.specs.declared.error.ErrorCode.TheVariants.{OutOfMemory};
+ghost use Rattle.sqlite.specs.declared.types.Value.TheVariants.{Int};
+ghost use Rattle.sql_rows.specs.Keyed.{number_in};
+ghost use Rattle.x12_tables.specs.Adopt.{TakesRows, IsNarrow, IsLong, IsNodeNumber};
+ghost use Rattle.x12_tables.specs.First.{IsInFirstRow};
+ghost use Rattle.x12_tables.specs.OneRow.{IsFirstVersion};
+ghost use Rattle.x12_tables.specs.declared.fault.TableFault.TheVariants.{Memory};
+
+use crate::fault::TableFault;
+use sqlite::types::FromSql;
+use sqlite::{Error, ErrorCode, Row};
+
+/// The fault of a row that doesn't stand where it has to.
+pub fn misplaced() -> Error {
+    Error::IntegralValueOutOfRange(0)
+}
+
+/// The number of 32 bits in a column, counted from 0; an error where it holds anything else.
+pub fn number_in(row: &Row, at: usize) -> Result<u32, Error>
+    ensures is { IfOk result (λ n. column row.now at ≡ Int (pos n)) }
+    ensures narrow { IfOk result (λ n. n < 2 ^ 32) }
+    ensures taken { TakesRows (IsNarrow (column row.now at)) (SqliteFailure OutOfMemory) result }
+{
+    row.get(at)
+}
+
+/// The number of 64 bits in a column, counted from 0; an error where it holds anything else. SQLite's
+/// integers end at 9223372036854775807.
+pub fn long_in(row: &Row, at: usize) -> Result<u64, Error>
+    ensures is { IfOk result (λ n. column row.now at ≡ Int (pos n)) }
+    ensures taken { TakesRows (IsLong (column row.now at)) (SqliteFailure OutOfMemory) result }
+{
+    row.get(at)
+}
+
+/// The node in a column, counted from 0: a number of 16 bits; an error where it holds anything else.
+pub fn node_in(row: &Row, at: usize) -> Result<u16, Error>
+    ensures is { IfOk result (λ node. column row.now at ≡ Int (pos node)) }
+    ensures narrow { IfOk result (λ node. node < 2 ^ 16) }
+    ensures taken { TakesRows (IsNodeNumber (column row.now at)) (SqliteFailure OutOfMemory) result }
+{
+    let number = number_in(row, at)?;
+    match u16::try_from(number) {
+        Ok(node) => Ok(node),
+        Err(_) => Err(Error::IntegralValueOutOfRange(at)),
+    }
+}
+
+/// The value in the first column of the first row, if there is a row; an error where it is of another
+/// type.
+pub fn first_value<T: FromSql>(rows: &[Row]) -> Result<Option<T>, Error>
+    ensures { IfOk result (IsInFirstRow T.FromSql.reads_as rows.now) }
+{
+    match rows.first() {
+        Some(row) => Ok(Some(row.get(0)?)),
+        None => Ok(None),
+    }
+}
+
+/// Tests the key and the version in the first two columns.
+fn test_version(row: &Row) -> Result<(), TableFault>
+    ensures key { OnOk result (column row.now 0 ≡ Int (pos 1)) }
+    ensures version { OnOk result (column row.now 1 ≡ Int (pos 1)) }
+    ensures taken { TakesRows (IsFirstVersion (row.now ∷ [])) Memory result }
+{
+    let key = number_in(row, 0)?;
+    let version = number_in(row, 1)?;
+    if version != 1 {
+        return Err(TableFault::NotOurs);
+    }
+    if key != 1 {
+        return Err(TableFault::Store);
+    }
+    Ok(())
+}
+
+/// The one row of a table that says its version, which is 1. [`TableFault::NotOurs`] where there is no
+/// row, or one of another version; [`TableFault::Store`] where there are several, or the key isn't 1.
+pub fn one_row(rows: &[Row]) -> Result<&Row, TableFault>
+    ensures one { IfOk result (λ row. rows.now ≡ row.now ∷ []) }
+    ensures key { IfOk result (λ row. column row.now 0 ≡ Int (pos 1)) }
+    ensures version { IfOk result (λ row. column row.now 1 ≡ Int (pos 1)) }
+    ensures taken { TakesRows (IsFirstVersion rows.now) Memory result }
+{
+    if rows.is_empty() {
+        return Err(TableFault::NotOurs);
+    }
+    let [row] = rows else {
+        return Err(TableFault::Store);
+    };
+    test_version(row)?;
+    Ok(row)
+}
+
+/// A number as SQLite has it, whose integers end at 9223372036854775807; `NoRowid` for one above that.
+pub fn integer(n: u64) -> Result<i64, Error>
+    ensures ok { IfOk result (λ i. i ≡ pos n) }
+    ensures few { OnOk result (n < 2 ^ 63) }
+    ensures taken { n < 2 ^ 63 → IsOk result }
+{
+    i64::try_from(n).map_err(|_| Error::SqliteFailure(ErrorCode::NoRowid))
+}
