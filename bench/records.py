@@ -2,9 +2,9 @@
 """Measures records in tables of a file beside the same statements in C over SQLite: bench/records.py [EVENTS].
 
 Builds the program of checks/database_file, proved, over the libraries as they are proved; bench/records/statements, which runs
-the statements alone over the toolchain's SQLite, without the look-up in front of an arrival and a deposit; and
-bench/records/main.c with the C compiler over libsqlite3 (with its header). Tells instructions of an event by valgrind, without
-the kernel's, and microseconds of the processor, the kernel's too.
+the statements alone over the toolchain's SQLite, over a file and in memory, without the look-up in front of an arrival and a
+deposit; and bench/records/main.c with the C compiler over libsqlite3 (with its header). Tells instructions of an event by
+valgrind, without the kernel's, and microseconds of the processor, the kernel's too.
 """
 import os
 import re
@@ -86,11 +86,14 @@ def main():
         for kind, (program, first, line) in KINDS.items():
             script = lambda count: "\n".join([first, *map(line, range(1, count + 1))]) + "\n"
             told = {"ours": measured(lambda _: [ours, program, "new", file], script, events, room)}
-            for name, its in (("its statements alone", alone), ("C", theirs)):
-                told[name] = measured(lambda count: [its, kind, str(count), file], lambda _: "", events, room)
-            for name, (counted, took) in told.items():
-                of_c = f"{counted / told['C'][0]:.2f} and {took / told['C'][1]:.2f} times C"
-                print(f"{kind}, {name}: {counted:,.0f} instructions, {took:.0f} us; {of_c}", flush=True)
+            for at in (file, ":memory:"):
+                for name, its in (("its statements alone", alone), ("C", theirs)):
+                    told[name] = measured(lambda count: [its, kind, str(count), at], lambda _: "", events, room)
+                for name, (counted, took) in told.items():
+                    of_c = f"{counted / told['C'][0]:.2f} and {took / told['C'][1]:.2f} times C"
+                    where = "in memory" if at == ":memory:" else "over a file"
+                    print(f"{kind}, {name}, {where}: {counted:,.0f} instructions, {took:.0f} us; {of_c}", flush=True)
+                told = {}
 
 
 if __name__ == "__main__":
