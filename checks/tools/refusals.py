@@ -36,8 +36,6 @@ SHOWN = {
     "x12_network": "`gates.rt` of x12_trial_tests",
     "x12_nodes": "`refusals.rt` of x12_nodes_tests",
     "x12_records": "tests of x12_records_tests, and `checks/mailbox.py`",
-    "x12_hub_records": "tests of x12_records_tests",
-    "x12_station_records": "tests of x12_records_tests",
     "x12_tables": "tests of x12_records_tests",
     "x12_answering": "tests of x12_tests",
     "x12_trial": "`checks/network.py`",
