@@ -1,3 +1,3 @@
 pub mod SubmissionLemmas
 mod AskLemmas
-mod BoundLemmas
+pub mod ActionLemmas

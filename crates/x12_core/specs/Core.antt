@@ -6,14 +6,12 @@ use Rattle.x12_core.specs.declared.node_core.Core.{Core}
 use Rattle.x12_core.specs.declared.node_core.Core.TheVariants as core
 use Rattle.x12_core.specs.declared.fault.CoreFault.{CoreFault}
 use Rattle.x12_core.specs.declared.fault.CoreFault.TheVariants as code
-use Rattle.x12_core.specs.declared.fault.NodeFault.TheVariants.{OfStation, OfHub}
-use Rattle.x12_core.specs.Ask.{Ask, does_at, suits, fate_told, bytes_of_ask, row_of_ask}
-use Rattle.x12_core.specs.HubAsk.{IsHubFault}
+use Rattle.x12_core.specs.Ask.{Ask, does_at, suits, fate_told}
+use Rattle.x12_core.specs.Fault.{IsRefusalOfAsk}
 use Rattle.x12_core.specs.Node.{Node, IsHub, IsStation}
 use Rattle.x12_core.specs.declared.packet.Site.{Site}
 use Rattle.x12_core.specs.Sends.{sends_view}
 use Rattle.x12_profile.specs.X12.{x12}
-use Rattle.x12_station.specs.Fault.{IsRowOrWant}
 
 -- the node that a core is
 abbrev pub node_of : {R H : Type 0} → Core R H → Node
@@ -42,9 +40,4 @@ Did i ask old new (answer.Fate fate) = (fate_told x12 ask old ≡ Some fate) × 
 abbrev pub IsCoreRefusal : ℕ → Ask → Node → CoreFault → Type 0
 IsCoreRefusal i ask n code.WrongKind = suits i ask n ≡ false
 IsCoreRefusal i ask n code.Memory = suits i ask n ≡ true
-IsCoreRefusal i ask (IsStation s) (code.Node (OfStation fault)) =
-    (suits i ask (IsStation s) ≡ true) × IsRowOrWant (row_of_ask ask s) fault
-IsCoreRefusal i ask (IsHub h) (code.Node (OfHub fault)) =
-    (suits i ask (IsHub h) ≡ true) × IsHubFault h (bytes_of_ask ask) fault
-IsCoreRefusal i ask (IsStation s) (code.Node (OfHub fault)) = ⊥
-IsCoreRefusal i ask (IsHub h) (code.Node (OfStation fault)) = ⊥
+IsCoreRefusal i ask n (code.Node fault) = (suits i ask n ≡ true) × IsRefusalOfAsk ask n fault

@@ -2,12 +2,11 @@ pub mod Packet
 pub mod Node
 pub mod Effect
 pub mod NodeRefusal
+pub mod Action
 pub mod Ask
 pub mod View
 pub mod Sends
 pub mod Submission
-pub mod StationAsk
-pub mod HubAsk
+pub mod Fault
 pub mod Core
 pub mod Bound
-pub mod Fault

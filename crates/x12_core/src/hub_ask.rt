@@ -1,43 +1,27 @@
-//! What a hub is asked, and what it sends then.
+//! What a hub does where it is asked.
 
 ghost use Rattle.std.specs.Prelude.{◌≡◌, ◌≤◌, [], ◌∷◌, IsTrue, IfOk, IfErr, OnErr, Some, length};
 ghost use Rattle.x12_hub.specs.Record.{decision_view};
-ghost use Rattle.x12_core.specs.Bound.{mailbox_bound};
-ghost use Rattle.x12_core.specs.Effect.{refusals, reports_taken};
+ghost use Rattle.x12_core.specs.Action.{acts};
+ghost use Rattle.x12_core.specs.Ask.{does_at, Comes, Do};
+ghost use Rattle.x12_core.specs.Bound.{hub_bound};
+ghost use Rattle.x12_core.specs.Core.{IsCoreRefusal};
+ghost use Rattle.x12_core.specs.Effect.{comes_to_hub, refusals, reports_taken};
 ghost use Rattle.x12_core.specs.Fault.{CountsCore};
-ghost use Rattle.x12_core.specs.HubAsk.{hub_effect, IsHubRefusal, brought};
 ghost use Rattle.x12_core.specs.Sends.{sends_view};
-ghost use Rattle.x12_core.specs.Packet.{Refusal};
+ghost use Rattle.x12_core.specs.Packet.{PacketName, Refusal};
 ghost use Rattle.x12_core.specs.Submission.{listed};
-ghost use Rattle.x12_core.specs.View.{packet_view};
+ghost use Rattle.x12_core.specs.View.{action_view, load_view, packet_view, ref_view};
 ghost use Rattle.x12_core.specs.Node.{IsHub};
+ghost use Rattle.x12_profile.specs.X12.{x12};
 
+use crate::action::Action;
+use crate::ask::AskRef;
 use crate::fault::CoreFault;
-use crate::packet::{Load, Packet};
+use crate::packet::{Load, Packet, Site};
 use crate::sends::{Sends, report};
-use x12_envelopes::{Moment, Party};
+use x12_envelopes::Moment;
 use x12_hub::{Decision, Hub, HubRecords};
-
-/// What a hub is asked.
-#[derive(Debug, Drop)]
-pub enum HubAsk<'a> {
-    /// To take an interchange that a node deposits.
-    Deposit(u16, &'a [u8], Moment),
-    /// To take an item of its mailbox at a node, the other hub.
-    Item(u16, u32, &'a [u8], Moment),
-    /// To take any other interchange: nobody waits to hear of its refusal.
-    Arrival(&'a [u8], Moment),
-    /// That a node took an item.
-    Taken(u16, u32),
-    /// To send what waits in the mailbox of a node.
-    Collect(u16),
-    /// To give a party its mailbox at a node.
-    Enrol(Party, u16),
-    /// To take a party's entry out.
-    Dismiss(Party),
-    /// To start again.
-    Restart,
-}
 
 /// A hub's refusal, for the node that waits for it.
 fn refusal(hub: u16, to: u16, reply: Vec<u8>) -> Packet
@@ -74,55 +58,109 @@ fn reported(hub: u16, to: u16, item: u32, decision: Decision) -> Sends
     }
 }
 
-/// Asks the hub of this node. L3.
-pub fn ask_hub<H: HubRecords>(
-    hub: &mut Hub<H>,
-    node: u16,
-    ask: &HubAsk<'_>,
-) -> Result<Sends, CoreFault>
+/// The hub of this site acts so. L7 and L3.
+fn act<H: HubRecords>(hub: &mut Hub<H>, site: Site, action: &Action) -> Result<Sends, CoreFault>
     ensures never_won_back { IsTrue hub.new.answers → IsTrue hub.old.answers }
     ensures took { IsTrue hub.new.answers → IfOk result (λ sends.
-        hub_effect node ask.now hub.old.hub
+        acts x12 site (action_view action.now) (IsHub hub.old.hub)
         ≡ Some (record { node = IsHub hub.new.hub; sends = sends_view sends })) }
     ensures submits { IfOk result (λ sends. listed sends ≡ []) }
-    ensures refused { IsTrue hub.new.answers →
-        IfErr result (IsHubRefusal hub.old.hub (brought ask.now)) }
+    ensures refused { IsTrue hub.new.answers → IfErr result
+        (IsCoreRefusal site.node (Do (action_view action.now)) (IsHub hub.old.hub)) }
     ensures unchanged { IsTrue hub.new.answers → OnErr result (hub.new.hub ≡ hub.old.hub) }
-    ensures bounded { IfOk result (λ sends.
-        length (sends_view sends) ≤ mailbox_bound ask.now hub.old.memory) }
+    ensures bounded { IfOk result (λ sends. length (sends_view sends)
+        ≤ hub_bound (Do (action_view action.now)) hub.old.memory) }
     ensures store { CountsCore result hub.old.failures hub.new.failures }
 {
-    match ask {
-        HubAsk::Deposit(from, bytes, at) => {
-            let decision = hub.deposit(bytes, at)?;
-            Ok(refused(node, *from, decision))
+    if action.node_served() == Some(site.node) {
+        return Err(CoreFault::WrongKind);
+    }
+    match action {
+        Action::Collect { node } => {
+            let items = hub.collect(*node)?;
+            Ok(Sends::Items(site.node, *node, items))
         }
-        HubAsk::Item(from, item, bytes, at) => {
-            let decision = hub.deposit(bytes, at)?;
-            Ok(reported(node, *from, *item, decision))
-        }
-        HubAsk::Arrival(bytes, at) => {
-            hub.deposit(bytes, at)?;
+        Action::Enrol { party, node } => {
+            hub.enrol(*party, *node)?;
             Ok(Sends::Nothing)
         }
-        HubAsk::Taken(from, item) => {
-            hub.taken(*from, *item)?;
-            Ok(Sends::Nothing)
-        }
-        HubAsk::Collect(of) => {
-            let items = hub.collect(*of)?;
-            Ok(Sends::Items(node, *of, items))
-        }
-        HubAsk::Enrol(party, at) => {
-            hub.enrol(*party, *at)?;
-            Ok(Sends::Nothing)
-        }
-        HubAsk::Dismiss(party) => {
+        Action::Dismiss { party } => {
             hub.dismiss(party)?;
             Ok(Sends::Nothing)
         }
-        HubAsk::Restart => {
+        Action::Restart => {
             hub.restart()?;
+            Ok(Sends::Nothing)
+        }
+        Action::SubmitOrders { .. } => Err(CoreFault::WrongKind),
+        Action::SubmitPrepared { .. } => Err(CoreFault::WrongKind),
+        Action::Tick { .. } => Err(CoreFault::WrongKind),
+        Action::Agree { .. } => Err(CoreFault::WrongKind),
+    }
+}
+
+/// The hub of this node takes what a packet brings. L3.
+fn take<H: HubRecords>(
+    hub: &mut Hub<H>,
+    node: u16,
+    from: u16,
+    load: &Load,
+    at: &Moment,
+) -> Result<Sends, CoreFault>
+    ensures never_won_back { IsTrue hub.new.answers → IsTrue hub.old.answers }
+    ensures took { IsTrue hub.new.answers → IfOk result (λ sends.
+        comes_to_hub x12 node from at.now hub.old.hub (load_view load.now)
+        ≡ Some (record { node = IsHub hub.new.hub; sends = sends_view sends })) }
+    ensures submits { IfOk result (λ sends. listed sends ≡ []) }
+    ensures refused { IsTrue hub.new.answers → IfErr result (λ f. (name : PacketName) →
+        IsCoreRefusal node (Comes name from (load_view load.now) at.now) (IsHub hub.old.hub) f) }
+    ensures unchanged { IsTrue hub.new.answers → OnErr result (hub.new.hub ≡ hub.old.hub) }
+    ensures bounded { IfOk result (λ sends. length (sends_view sends) ≤ 2) }
+    ensures store { CountsCore result hub.old.failures hub.new.failures }
+{
+    match load {
+        Load::Deposit(bytes) => {
+            let decision = hub.deposit(bytes, at)?;
+            Ok(refused(node, from, decision))
+        }
+        Load::Item(item, bytes) => {
+            let decision = hub.deposit(bytes, at)?;
+            Ok(reported(node, from, *item, decision))
+        }
+        Load::Refusal(bytes) => {
+            hub.deposit(bytes, at)?;
+            Ok(Sends::Nothing)
+        }
+        Load::Taken(item) => {
+            hub.taken(from, *item)?;
+            Ok(Sends::Nothing)
+        }
+    }
+}
+
+/// Asks the hub of this site. L7 and L3.
+pub fn ask_hub<H: HubRecords>(
+    hub: &mut Hub<H>,
+    site: Site,
+    ask: &AskRef<'_>,
+) -> Result<Sends, CoreFault>
+    ensures never_won_back { IsTrue hub.new.answers → IsTrue hub.old.answers }
+    ensures took { IsTrue hub.new.answers → IfOk result (λ sends.
+        does_at x12 site (ref_view ask.now) (IsHub hub.old.hub)
+        ≡ Some (record { node = IsHub hub.new.hub; sends = sends_view sends })) }
+    ensures submits { IfOk result (λ sends. listed sends ≡ []) }
+    ensures refused { IsTrue hub.new.answers →
+        IfErr result (IsCoreRefusal site.node (ref_view ask.now) (IsHub hub.old.hub)) }
+    ensures unchanged { IsTrue hub.new.answers → OnErr result (hub.new.hub ≡ hub.old.hub) }
+    ensures bounded { IfOk result (λ sends.
+        length (sends_view sends) ≤ hub_bound (ref_view ask.now) hub.old.memory) }
+    ensures store { CountsCore result hub.old.failures hub.new.failures }
+{
+    match ask {
+        AskRef::Do(action) => act(hub, site, action),
+        AskRef::Deliver { from, load, at, .. } => take(hub, site.node, *from, load, at),
+        AskRef::Outside { bytes, at } => {
+            hub.deposit(bytes, at)?;
             Ok(Sends::Nothing)
         }
     }

@@ -2,6 +2,7 @@
 //! is one step of a core.
 #![tactic(auto)]
 
+mod action;
 mod ask;
 mod fault;
 mod hub_ask;
@@ -11,11 +12,12 @@ mod sends;
 mod station_ask;
 mod submission;
 
-pub use ask::Ask;
+pub use action::Action;
+pub use ask::{Ask, AskRef};
 pub use fault::{CoreFault, NodeFault};
-pub use hub_ask::{HubAsk, ask_hub};
+pub use hub_ask::ask_hub;
 pub use node_core::{Answer, Core};
 pub use packet::{HUB_NODE, Kind, Load, Packet, PacketName, SECOND_HUB_NODE, Site};
 pub use sends::{Sends, deposit};
-pub use station_ask::{StationAsk, ask_station};
+pub use station_ask::ask_station;
 pub use submission::Listed;

@@ -2,7 +2,8 @@
 
 ghost use Rattle.std.specs.Prelude.{◌≡◌, ◌≤◌, ℕ, IsTrue, IfErr, IfOk, OnErr, Some, length};
 ghost use Rattle.x12_core.specs.declared.packet.Site.{Site};
-ghost use Rattle.x12_core.specs.Ask.{does_at};
+ghost use Rattle.x12_acks.specs.Key.{key_view};
+ghost use Rattle.x12_core.specs.Ask.{does_at, suits, Fate};
 ghost use Rattle.x12_core.specs.Bound.{core_bound, hub_bound, station_bound, SendsAtMost};
 ghost use Rattle.x12_core.specs.Core.{core_answers, core_failures, node_of, Did, IsCoreRefusal};
 ghost use Rattle.x12_core.specs.Fault.{CountsCore};
@@ -11,7 +12,8 @@ ghost use Rattle.x12_core.specs.Node.{IsHub, IsStation};
 ghost use Rattle.x12_core.specs.View.{ask_view};
 ghost use Rattle.x12_profile.specs.X12.{x12};
 
-use crate::ask::{Ask, of_hub, of_station};
+use crate::action::Action;
+use crate::ask::Ask;
 use crate::fault::CoreFault;
 use crate::hub_ask::ask_hub;
 use crate::packet::Site;
@@ -20,7 +22,6 @@ use crate::station_ask::ask_station;
 use std::alloc::Global;
 use x12_acks::SetKey;
 use x12_hub::{Hub, HubRecords};
-use x12_outbound::Fate;
 use x12_station::{Records, Station};
 
 /// A core: what a node is, without its number.
@@ -38,17 +39,16 @@ pub enum Answer {
     /// This happened: it sends these packets.
     Sent(Sends),
     /// The set of the key fares so; `None` of one that this station never submitted.
-    Fate(Option<Fate>),
+    Fate(Option<x12_outbound::Fate>),
 }
 
-/// Tells how a transaction set fares. L3.
-fn tell<R: Records>(station: &mut Station<R>, ask: &Ask, key: &SetKey) -> Result<Answer, CoreFault>
-    requires asked { ask.now ≡ Ask.Fate key.now }
+/// Tells how the transaction set of this key fares. L3.
+fn tell<R: Records>(station: &mut Station<R>, key: &SetKey) -> Result<Answer, CoreFault>
     ensures never_won_back { IsTrue station.new.answers → IsTrue station.old.answers }
     ensures did { IsTrue station.new.answers → IfOk result (λ a. (site : Site) → Did site
-        (ask_view ask.now) (IsStation station.old.state) (IsStation station.new.state) a) }
+        (Fate (key_view key.now)) (IsStation station.old.state) (IsStation station.new.state) a) }
     ensures refused { IfErr result (λ f. (node : ℕ) →
-        IsCoreRefusal node (ask_view ask.now) (IsStation station.old.state) f) }
+        IsCoreRefusal node (Fate (key_view key.now)) (IsStation station.old.state) f) }
     ensures unchanged { IsTrue station.new.answers →
         station.new.state ≡ station.old.state }
     ensures bounded { (most : ℕ) → IfOk result (SendsAtMost most) }
@@ -71,15 +71,13 @@ fn apply_to_station<R: Records>(
         (IsCoreRefusal site.node (ask_view ask.now) (IsStation station.old.state)) }
     ensures unchanged { IsTrue station.new.answers →
         OnErr result (station.new.state ≡ station.old.state) }
-    ensures bounded { IfOk result (SendsAtMost (station_bound ask.now station.old.memory)) }
+    ensures bounded { IfOk result
+        (SendsAtMost (station_bound (ask_view ask.now) station.old.memory)) }
     ensures store { CountsCore result station.old.failures station.new.failures }
 {
-    if let Ask::Fate { key } = ask {
-        return tell(station, ask, key);
-    }
-    match of_station(ask) {
-        Some(asked) => Ok(Answer::Sent(ask_station(alloc, station, site, &asked)?)),
-        None => Err(CoreFault::WrongKind),
+    match ask.lent() {
+        Ok(lent) => Ok(Answer::Sent(ask_station(alloc, station, site, &lent)?)),
+        Err(key) => tell(station, key),
     }
 }
 
@@ -91,12 +89,12 @@ fn apply_to_hub<H: HubRecords>(hub: &mut Hub<H>, site: Site, ask: &Ask) -> Resul
     ensures refused { IsTrue hub.new.answers →
         IfErr result (IsCoreRefusal site.node (ask_view ask.now) (IsHub hub.old.hub)) }
     ensures unchanged { IsTrue hub.new.answers → OnErr result (hub.new.hub ≡ hub.old.hub) }
-    ensures bounded { IfOk result (SendsAtMost (hub_bound ask.now hub.old.memory)) }
+    ensures bounded { IfOk result (SendsAtMost (hub_bound (ask_view ask.now) hub.old.memory)) }
     ensures store { CountsCore result hub.old.failures hub.new.failures }
 {
-    match of_hub(site.node, ask) {
-        Some(asked) => Ok(Answer::Sent(ask_hub(hub, site.node, &asked)?)),
-        None => Err(CoreFault::WrongKind),
+    match ask.lent() {
+        Ok(lent) => Ok(Answer::Sent(ask_hub(hub, site, &lent)?)),
+        Err(_) => Err(CoreFault::WrongKind),
     }
 }
 
@@ -114,7 +112,7 @@ impl<R: Records, H: HubRecords> Core<R, H> {
             IfErr result (IsCoreRefusal site.node (ask_view ask.now) (node_of self.old)) }
         ensures unchanged { IsTrue (core_answers self.new) →
             OnErr result (node_of self.new ≡ node_of self.old) }
-        ensures bounded { IfOk result (SendsAtMost (core_bound ask.now self.old)) }
+        ensures bounded { IfOk result (SendsAtMost (core_bound (ask_view ask.now) self.old)) }
         ensures store { CountsCore result (core_failures self.old) (core_failures self.new) }
     {
         match self {
@@ -123,20 +121,36 @@ impl<R: Records, H: HubRecords> Core<R, H> {
         }
     }
 
+    /// Whether the node of this number, which this core is, is asked so.
+    pub fn suits(&self, node: u16, ask: &Ask) -> bool
+        ensures { result ≡ suits node (ask_view ask.now) (node_of self.now) }
+    {
+        match self {
+            Core::Station(_) => match ask.lent() {
+                Ok(lent) => lent.suits_station(),
+                Err(_) => true,
+            },
+            Core::Hub(_) => match ask.lent() {
+                Ok(lent) => lent.suits_hub(node),
+                Err(_) => false,
+            },
+        }
+    }
+
     /// How many packets the node sends at most, where it is asked so: at a tick those that are open,
     /// at a collection those that wait, and else two.
     pub fn bound(&self, ask: &Ask) -> usize
-        ensures is { result ≡ core_bound ask.now self.now }
+        ensures is { result ≡ core_bound (ask_view ask.now) self.now }
         ensures does { IsTrue (core_answers self.now) → (i : Site) (e : Effect) →
             does_at x12 i (ask_view ask.now) (node_of self.now) ≡ Some e → length e.sends ≤ result }
     {
         match self {
             Core::Station(station) => match ask {
-                Ask::Tick { .. } => station.open_count() as usize,
+                Ask::Do(Action::Tick { .. }) => station.open_count() as usize,
                 _ => 2,
             },
             Core::Hub(hub) => match ask {
-                Ask::Collect { node } => hub.waiting(*node),
+                Ask::Do(Action::Collect { node }) => hub.waiting(*node),
                 _ => 2,
             },
         }

@@ -1,8 +1,11 @@
 //! What goes over the links.
 
-ghost use Rattle.std.specs.Prelude.{◌≡◌};
+ghost use Rattle.std.specs.Prelude.{◌≡◌, Some, not};
+ghost use Rattle.x12_core.specs.Ask.{is_for};
+ghost use Rattle.x12_core.specs.Node.{IsStation};
 ghost use Rattle.x12_core.specs.Packet.{kind_of_load};
 ghost use Rattle.x12_core.specs.View.{kind_view, load_view};
+ghost use Rattle.x12_station.specs.Station.{Station};
 
 /// The first hub's node. Stations have the numbers behind it, 1 to 16.
 pub const HUB_NODE: u16 = 0;
@@ -75,6 +78,18 @@ impl Load {
             Load::Item(item, _) => Kind::Item(*item),
             Load::Refusal(_) => Kind::Refusal,
             Load::Taken(item) => Kind::Taken(*item),
+        }
+    }
+
+    /// Whether hubs alone take it: a deposit or a report.
+    pub fn is_for_hubs(&self) -> bool
+        ensures { (s : Station) → not result ≡ is_for (load_view self.now) (Some (IsStation s)) }
+    {
+        match self {
+            Load::Deposit(_) => true,
+            Load::Taken(_) => true,
+            Load::Item(_, _) => false,
+            Load::Refusal(_) => false,
         }
     }
 }

@@ -1,43 +1,31 @@
-//! What a station is asked, and what it sends then.
+//! What a station does where it is asked.
 
 ghost use Rattle.std.specs.Prelude.{◌≡◌, ◌≤◌, ◌∷◌, [], IsTrue, IfOk, IfErr, OnErr, Some, length};
 ghost use Rattle.std.specs.Prelude.{option_to_list};
 ghost use Rattle.x12_inbound.specs.Filing.{reply_bytes};
 ghost use Rattle.x12_judge.specs.Agreement.{agreement_view};
-ghost use Rattle.x12_core.specs.Bound.{ask_bound};
-ghost use Rattle.x12_core.specs.StationAsk.{ask_effect, ask_row, IsAskRefusal};
-ghost use Rattle.x12_core.specs.Effect.{deposits, reports_taken};
+ghost use Rattle.x12_core.specs.Action.{acts};
+ghost use Rattle.x12_core.specs.Ask.{does_at, Comes, Do};
+ghost use Rattle.x12_core.specs.Bound.{station_bound};
+ghost use Rattle.x12_core.specs.Core.{IsCoreRefusal};
+ghost use Rattle.x12_core.specs.Effect.{comes_to_station, deposits, reports_taken};
 ghost use Rattle.x12_core.specs.Fault.{CountsCore};
+ghost use Rattle.x12_core.specs.Packet.{PacketName};
 ghost use Rattle.x12_core.specs.Sends.{sends_view};
 ghost use Rattle.x12_core.specs.Submission.{listed, SubmitsMore};
 ghost use Rattle.x12_core.specs.Node.{IsStation};
+ghost use Rattle.x12_core.specs.View.{action_view, load_view, ref_view};
+ghost use Rattle.x12_profile.specs.X12.{x12};
 
+use crate::action::Action;
+use crate::ask::AskRef;
 use crate::fault::CoreFault;
-use crate::packet::Site;
+use crate::packet::{Load, Site};
 use crate::sends::{Sends, deposit, report};
 use std::alloc::{AllocError, Global};
-use x12_envelopes::{Moment, Party};
+use x12_envelopes::Moment;
 use x12_judge::Agreement;
-use x12_station::{Body, Records, Sent, Station};
-
-/// What a station is asked.
-#[derive(Debug, Drop)]
-pub enum StationAsk<'a> {
-    /// To submit orders.
-    Orders(Party, Moment, &'a [Body]),
-    /// To submit an interchange that was prepared.
-    Prepared(&'a [u8]),
-    /// To take an item of its mailbox at a node, a hub.
-    Item(u16, u32, &'a [u8], Moment),
-    /// To take any other interchange.
-    Arrival(&'a [u8], Moment),
-    /// To send again what is due.
-    Tick(u64),
-    /// To make an agreement.
-    Agreement(&'a Agreement),
-    /// To start again.
-    Restart,
-}
+use x12_station::{Records, Sent, Station};
 
 /// What was submitted, for the station's hub.
 fn submitted(at: Site, sent: Sent) -> Sends
@@ -82,56 +70,118 @@ fn copied(alloc: Global, agreement: &Agreement) -> Result<Agreement, AllocError>
     })
 }
 
-/// Asks the station of this site. L4 where an agreement can't be copied; L3.
-pub fn ask_station<R: Records>(
+/// The station of this site acts so. L7; L4 where an agreement can't be copied; L3.
+fn act<R: Records>(
     alloc: Global,
     station: &mut Station<R>,
     site: Site,
-    ask: &StationAsk<'_>,
+    action: &Action,
 ) -> Result<Sends, CoreFault>
     ensures never_won_back { IsTrue station.new.answers → IsTrue station.old.answers }
     ensures took { IsTrue station.new.answers → IfOk result (λ sends.
-        ask_effect site ask.now station.old.state
+        acts x12 site (action_view action.now) (IsStation station.old.state)
         ≡ Some (record { node = IsStation station.new.state; sends = sends_view sends })) }
     ensures submits { IsTrue station.new.answers → IfOk result (λ sends.
         SubmitsMore site.node station.old.state station.new.state (listed sends)) }
-    ensures refused { IsTrue station.new.answers →
-        IfErr result (IsAskRefusal (ask_row ask.now station.old.state)) }
+    ensures refused { IsTrue station.new.answers → IfErr result
+        (IsCoreRefusal site.node (Do (action_view action.now)) (IsStation station.old.state)) }
     ensures unchanged { IsTrue station.new.answers →
         OnErr result (station.new.state ≡ station.old.state) }
-    ensures bounded { IfOk result (λ sends.
-        length (sends_view sends) ≤ ask_bound ask.now station.old.memory) }
+    ensures bounded { IfOk result (λ sends. length (sends_view sends)
+        ≤ station_bound (Do (action_view action.now)) station.old.memory) }
     ensures store { CountsCore result station.old.failures station.new.failures }
 {
-    match ask {
-        StationAsk::Orders(to, at, orders) => {
+    match action {
+        Action::SubmitOrders { to, at, orders } => {
             let sent = station.submit_orders(*to, at, orders)?;
             Ok(submitted(site, sent))
         }
-        StationAsk::Prepared(bytes) => {
+        Action::SubmitPrepared { bytes } => {
             let sent = station.submit_prepared(bytes)?;
             Ok(submitted(site, sent))
         }
-        StationAsk::Item(from, item, bytes, at) => {
-            let arrival = station.arrive(bytes, at)?;
-            Ok(reported(site, *from, *item, arrival.reply))
-        }
-        StationAsk::Arrival(bytes, at) => {
-            let arrival = station.arrive(bytes, at)?;
-            Ok(answered(site, arrival.reply))
-        }
-        StationAsk::Tick(now) => {
+        Action::Tick { now } => {
             let due = station.tick(*now)?;
             Ok(Sends::Deposits(site, due))
         }
-        StationAsk::Agreement(agreement) => {
+        Action::Agree { agreement } => {
             let agreement = copied(alloc, agreement)?;
             station.set_agreement(agreement)?;
             Ok(Sends::Nothing)
         }
-        StationAsk::Restart => {
+        Action::Restart => {
             station.restart()?;
             Ok(Sends::Nothing)
+        }
+        Action::Collect { .. } => Err(CoreFault::WrongKind),
+        Action::Enrol { .. } => Err(CoreFault::WrongKind),
+        Action::Dismiss { .. } => Err(CoreFault::WrongKind),
+    }
+}
+
+/// The station of this site takes what a packet brings. L7 and L3.
+fn take<R: Records>(
+    station: &mut Station<R>,
+    site: Site,
+    from: u16,
+    load: &Load,
+    at: &Moment,
+) -> Result<Sends, CoreFault>
+    ensures never_won_back { IsTrue station.new.answers → IsTrue station.old.answers }
+    ensures took { IsTrue station.new.answers → IfOk result (λ sends.
+        comes_to_station x12 site from at.now station.old.state (load_view load.now)
+        ≡ Some (record { node = IsStation station.new.state; sends = sends_view sends })) }
+    ensures submits { IsTrue station.new.answers → IfOk result (λ sends.
+        SubmitsMore site.node station.old.state station.new.state (listed sends)) }
+    ensures refused { IsTrue station.new.answers → IfErr result (λ f. (name : PacketName) →
+        IsCoreRefusal site.node (Comes name from (load_view load.now) at.now)
+        (IsStation station.old.state) f) }
+    ensures unchanged { IsTrue station.new.answers →
+        OnErr result (station.new.state ≡ station.old.state) }
+    ensures bounded { IfOk result (λ sends. length (sends_view sends) ≤ 2) }
+    ensures store { CountsCore result station.old.failures station.new.failures }
+{
+    match load {
+        Load::Item(item, bytes) => {
+            let arrival = station.arrive(bytes, at)?;
+            Ok(reported(site, from, *item, arrival.reply))
+        }
+        Load::Refusal(bytes) => {
+            let arrival = station.arrive(bytes, at)?;
+            Ok(answered(site, arrival.reply))
+        }
+        Load::Deposit(_) => Err(CoreFault::WrongKind),
+        Load::Taken(_) => Err(CoreFault::WrongKind),
+    }
+}
+
+/// Asks the station of this site. L7; L4 where an agreement can't be copied; L3.
+pub fn ask_station<R: Records>(
+    alloc: Global,
+    station: &mut Station<R>,
+    site: Site,
+    ask: &AskRef<'_>,
+) -> Result<Sends, CoreFault>
+    ensures never_won_back { IsTrue station.new.answers → IsTrue station.old.answers }
+    ensures took { IsTrue station.new.answers → IfOk result (λ sends.
+        does_at x12 site (ref_view ask.now) (IsStation station.old.state)
+        ≡ Some (record { node = IsStation station.new.state; sends = sends_view sends })) }
+    ensures submits { IsTrue station.new.answers → IfOk result (λ sends.
+        SubmitsMore site.node station.old.state station.new.state (listed sends)) }
+    ensures refused { IsTrue station.new.answers → IfErr result
+        (IsCoreRefusal site.node (ref_view ask.now) (IsStation station.old.state)) }
+    ensures unchanged { IsTrue station.new.answers →
+        OnErr result (station.new.state ≡ station.old.state) }
+    ensures bounded { IfOk result (λ sends.
+        length (sends_view sends) ≤ station_bound (ref_view ask.now) station.old.memory) }
+    ensures store { CountsCore result station.old.failures station.new.failures }
+{
+    match ask {
+        AskRef::Do(action) => act(alloc, station, site, action),
+        AskRef::Deliver { from, load, at, .. } => take(station, site, *from, load, at),
+        AskRef::Outside { bytes, at } => {
+            let arrival = station.arrive(bytes, at)?;
+            Ok(answered(site, arrival.reply))
         }
     }
 }

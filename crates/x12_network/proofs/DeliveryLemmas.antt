@@ -1,9 +1,8 @@
 -- One receipt more, and what was delivered.
-use native.Mathlib.Omega.{arith}
-use Rattle.std.proofs.Common.{◌≡◌, ◌∙◌, ◌++◌, ◌∷◌, ◌==◌, ◌≢◌, [], Bool, Err, List, Ok, Result, ℕ, zero, suc, ap, append-nil, append_assoc, eqb-true, false, if◌then◌else◌, refl, subst, sym, true}
+use Rattle.std.proofs.Common.{◌≡◌, ◌∙◌, ◌++◌, ◌∷◌, ◌==◌, ◌≢◌, [], Bool, Err, List, Ok, Result, ℕ, ap, append-nil, append_assoc, eqb-true, false, if◌then◌else◌, refl, sym, true}
 use Rattle.std.proofs.lemmas.Bool.Decides.{Decides-eqb}
 use Rattle.x12_core.specs.declared.packet.PacketName.{PacketName as CodeName}
-use Rattle.x12_core.specs.Ask.{Ask, Orders, Prepared, Comes, Outside, Tick, Collect, Agree, Enrol, Dismiss, Restart, Fate}
+use Rattle.x12_core.specs.Ask.{Ask, Do, Comes, Outside, Fate}
 use Rattle.x12_core.specs.Packet.{Load}
 use Rattle.x12_core.specs.View.{name_view}
 use Rattle.x12_envelopes.specs.declared.moment.Moment.{Moment}
@@ -36,16 +35,9 @@ own_packet : (from : ℕ) (name : CodeName) (load : Load) (at : Moment) → pack
 own_packet from name load at = all_if (from == from) (name ∷ []) ((Decides-eqb from from).1 refl)
 
 no_packet : (sender : ℕ) (ask : Ask) → is_delivery ask ≡ false → packet_taken_from sender ask ≡ []
-no_packet sender (Orders to at orders) is = refl
-no_packet sender (Prepared b) is = refl
+no_packet sender (Do a) is = refl
 no_packet sender (Comes name from load at) is = absurd cc
 no_packet sender (Outside b at) is = refl
-no_packet sender (Tick now) is = refl
-no_packet sender (Collect j) is = refl
-no_packet sender (Agree a) is = refl
-no_packet sender (Enrol party j) is = refl
-no_packet sender (Dismiss party) is = refl
-no_packet sender Restart is = refl
 no_packet sender (Fate k) is = refl
 
 more_from : (from : ℕ) (old new : List Receipt) (r : Receipt) (xs : List CodeName) → new ≡ old ++ r ∷ [] → packet_taken_from from r.ask ≡ xs → delivered_from from new ≡ delivered_from from old ++ xs

@@ -1,7 +1,7 @@
 -- What the receipts of a node tell of packets that were delivered to it.
 use Rattle.std.specs.Prelude.{◌==◌, ◌≡◌, ◌++◌, ◌∷◌, [], if◌then◌else◌, Bool, IsTrue, List, None, Option, Result, Ok, Err, Some, false, true, ℕ}
 use Rattle.x12_core.specs.declared.packet.PacketName.{PacketName as CodeName}
-use Rattle.x12_core.specs.Ask.{Ask, Orders, Prepared, Comes, Outside, Tick, Collect, Agree, Enrol, Dismiss, Restart, Fate}
+use Rattle.x12_core.specs.Ask.{Ask, Do, Comes, Outside, Fate}
 use Rattle.x12_core.specs.Packet.{PacketName}
 use Rattle.x12_core.specs.View.{name_view}
 use Rattle.x12_links.specs.declared.course.Halt.{Halt}
@@ -22,31 +22,17 @@ IsBehind after name = IsTrue (name_is_above (name_behind after) (name_view name)
 
 -- whether a node was asked to take a packet of another node
 abbrev pub is_delivery : Ask → Bool
-is_delivery (Orders to at orders) = false
-is_delivery (Prepared b) = false
+is_delivery (Do a) = false
 is_delivery (Comes name from load at) = true
 is_delivery (Outside b at) = false
-is_delivery (Tick now) = false
-is_delivery (Collect j) = false
-is_delivery (Agree a) = false
-is_delivery (Enrol party j) = false
-is_delivery (Dismiss party) = false
-is_delivery Restart = false
 is_delivery (Fate k) = false
 
 -- the packet that a node was asked to take, where it is one of this sender's
 abbrev pub packet_taken_from : ℕ → Ask → List CodeName
 packet_taken_from sender (Comes name from load at) =
     if from == sender then record { event = name.event; place = name.place } ∷ [] else []
-packet_taken_from sender (Orders to at orders) = []
-packet_taken_from sender (Prepared b) = []
+packet_taken_from sender (Do a) = []
 packet_taken_from sender (Outside b at) = []
-packet_taken_from sender (Tick now) = []
-packet_taken_from sender (Collect j) = []
-packet_taken_from sender (Agree a) = []
-packet_taken_from sender (Enrol party j) = []
-packet_taken_from sender (Dismiss party) = []
-packet_taken_from sender Restart = []
 packet_taken_from sender (Fate k) = []
 
 -- the packets of a sender that were delivered to a node, as its receipts tell them, in their order

@@ -9,7 +9,7 @@ ghost use Rattle.x12_network.specs.Deliveries.{DeliverNothing, IsCalled};
 use crate::patience::Patience;
 use crate::tally::Tally;
 use std::sync::Wait;
-use x12_core::{Ask, Load, PacketName};
+use x12_core::{Action, Ask, Load, PacketName};
 use x12_envelopes::Moment;
 use x12_hub::HubRecords;
 use x12_links::{Delivery, Halt, Looks, Progress, Recipient};
@@ -103,8 +103,8 @@ impl<R: Records, H: HubRecords, G: Gate> Caller<'_, R, H, G> {
         ensures { is_delivery (ask_view result) ≡ false }
     {
         match self.patience.next_mailbox() {
-            Some(node) => Ask::Collect { node },
-            None => Ask::Tick { now: turn },
+            Some(node) => Ask::Do(Action::Collect { node }),
+            None => Ask::Do(Action::Tick { now: turn }),
         }
     }
 

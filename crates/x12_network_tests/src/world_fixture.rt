@@ -14,7 +14,7 @@ use x12_hub::Hub;
 use x12_judge::Agreement;
 use x12_samples::orders_from;
 use x12_station::{Body, Records, Station};
-use x12_world::{Event, HUB_NODE, Kind, Load, PacketName, ToldPacket, World};
+use x12_world::{Action, Event, HUB_NODE, Kind, Load, PacketName, ToldPacket, World};
 
 /// A network over the records of these rows.
 pub(crate) type Net = World<RecordsOfStation, RecordsOfHub>;
@@ -53,14 +53,19 @@ fn orders(alloc: Global) -> Result<Vec<Body>, AllocError> {
     Ok(orders)
 }
 
+/// A node does something of itself.
+fn act(node: u16, action: Action) -> Event {
+    Event::At { node, action }
+}
+
 /// A party gets its mailbox at a hub for a node.
 fn enrol(hub: u16, party: Party, node: u16) -> Event {
-    Event::Enrol { hub, party, node }
+    act(hub, Action::Enrol { party, node })
 }
 
 /// A hub sends what waits for a node.
 fn collect(hub: u16, node: u16) -> Event {
-    Event::Collect { hub, node }
+    act(hub, Action::Collect { node })
 }
 
 /// The event of a line, at a moment.
@@ -68,28 +73,23 @@ pub(crate) fn event(alloc: Global, line: Line, at: Moment) -> Result<Event, Allo
     match line {
         Line::Enrol(party, node) => Ok(enrol(HUB_NODE, party, node)),
         Line::EnrolAt(hub, party, node) => Ok(enrol(hub, party, node)),
-        Line::Dismiss(hub, party) => Ok(Event::Dismiss { hub, party }),
+        Line::Dismiss(hub, party) => Ok(act(hub, Action::Dismiss { party })),
         Line::Agree(node, partner) => {
             let agreement = orders_from(alloc, partner)?;
-            Ok(Event::Agree { node, agreement })
+            Ok(act(node, Action::Agree { agreement }))
         }
         Line::Withdraw(node, partner) => {
             let pairs = Vec::new(alloc);
             let agreement = Agreement { partner, pairs };
-            Ok(Event::Agree { node, agreement })
+            Ok(act(node, Action::Agree { agreement }))
         }
         Line::Orders(node, to) => {
             let orders = orders(alloc)?;
-            Ok(Event::SubmitOrders {
-                node,
-                to,
-                at,
-                orders,
-            })
+            Ok(act(node, Action::SubmitOrders { to, at, orders }))
         }
         Line::Prepared(node, text) => {
             let bytes = Vec::from_slice(alloc, text)?;
-            Ok(Event::SubmitPrepared { node, bytes })
+            Ok(act(node, Action::SubmitPrepared { bytes }))
         }
         Line::Outside(node, text) => {
             let bytes = Vec::from_slice(alloc, text)?;
@@ -99,10 +99,10 @@ pub(crate) fn event(alloc: Global, line: Line, at: Moment) -> Result<Event, Allo
             let packet = PacketName { event, place };
             Ok(Event::Deliver { packet, at })
         }
-        Line::Tick(node, now) => Ok(Event::Tick { node, now }),
+        Line::Tick(node, now) => Ok(act(node, Action::Tick { now })),
         Line::Collect(node) => Ok(collect(HUB_NODE, node)),
         Line::CollectAt(hub, node) => Ok(collect(hub, node)),
-        Line::Restart(node) => Ok(Event::Restart { node }),
+        Line::Restart(node) => Ok(act(node, Action::Restart)),
     }
 }
 

@@ -1,23 +1,20 @@
 -- The cells of a network: under each number the node is that of the number's cell.
-use Rattle.std.proofs.Common.{◌≡◌, ◌≢◌, ℕ, zero, suc, ◌+◌, ◌<◌, ◌≤◌, List, [], ◌∷◌, ◌++◌, Bool, true, false, ◌==◌, ◌&&◌, if◌then◌else◌, Option, Some, None, Contains, find, map, length, refl, sym, ap, subst, ◌∙◌, inl, inr, arith}
+use Rattle.std.proofs.Common.{◌≡◌, ◌≢◌, ℕ, zero, suc, ◌+◌, ◌<◌, ◌≤◌, List, [], ◌∷◌, ◌++◌, Bool, true, false, ◌==◌, if◌then◌else◌, Option, Some, None, Contains, find, map, length, refl, sym, ap, subst, ◌∙◌, inl, inr, arith}
 use Rattle.std.specs.Prelude.{get_or, option_map, option_to_list, slice_get}
 use Rattle.std.proofs.Common.{ne_eqb}
 use Rattle.std.proofs.lemmas.Bool.{and_parts}
 use Rattle.std.proofs.lemmas.Bool.Decides.{eqb_tells, nat_tests}
 use Rattle.std.proofs.lemmas.List.{append-nil}
-use Rattle.std.proofs.lemmas.List.Elements.{Contains-append_cases}
-use Rattle.std.proofs.lemmas.Option.{slice_get-map, slice_get_past, slice_get_within, get_or_from_slice_get}
+use Rattle.std.proofs.lemmas.Option.{slice_get-map, slice_get_past, slice_get_within}
 use Rattle.x12_core.specs.Node.{Node, hub_node, second_hub_node}
-use Rattle.x12_core.specs.declared.packet.Site.{Site}
 use Rattle.x12_nodes.specs.Cell.{CellView}
 use Rattle.x12_nodes.specs.Cells.{cell_at, nodes_by, split}
 use Rattle.x12_nodes.specs.Check.{are_numbered}
 use Rattle.x12_nodes.proofs.OwnLemmas.{Apart, apart_push}
-use Rattle.x12_numbers.proofs.Shelf.{contains_cons, none_in_nil, eq_itself, some_inj}
-use Rattle.x12_station.proofs.ListLemmas.{get_contains}
+use Rattle.x12_numbers.proofs.Shelf.{eq_itself, some_inj}
 use Rattle.x12_station.proofs.SeqLemmas.{find_kept, find_pushed}
 use Rattle.x12_world.proofs.NodesLemmas.{contains_get}
-use Rattle.x12_world.specs.Nodes.{Nodes, by_number, home_of, node_at}
+use Rattle.x12_world.specs.Nodes.{home_of, node_at}
 
 pub same_number : (a b : ℕ) → (a == b) ≡ true → a ≡ b
 same_number a b e = grind (arith, nat_tests)

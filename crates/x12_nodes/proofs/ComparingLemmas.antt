@@ -7,14 +7,15 @@ use Rattle.std.specs.Bool.{Decides}
 use Rattle.std.specs.Cmp.Lexicographic.{pointwise, pointwise_decides}
 use Rattle.std.specs.Coded.{Coded-set, coded_ℕ, coded_bool}
 use Rattle.std.specs.Option.{option_eq}
-use Rattle.x12_core.specs.Ask.{Ask, Orders, Prepared, Comes, Outside, Tick, Collect, Agree, Enrol, Dismiss, Restart, Fate}
+use Rattle.x12_core.specs.Action.{Action, Orders, Prepared, Tick, Collect, Agree, Enrol, Dismiss, Restart}
+use Rattle.x12_core.specs.Ask.{Ask, Do, Comes, Outside, Fate}
 use Rattle.x12_core.specs.Packet.{PacketName, Kind, IsDeposit, IsItem, IsRefusal, IsTaken}
 use Rattle.x12_envelopes.specs.declared.moment.Moment.{Moment}
 use Rattle.x12_envelopes.specs.Moment.{text_is_date, text_is_time}
 use Rattle.x12_judge.specs.Agreement.{TradingAgreement, is_same_party}
 use Rattle.x12_judge.proofs.Shelf.{same_party}
 use Rattle.x12_nodes.specs.Check.{load_is}
-use Rattle.x12_nodes.specs.Comparing.{moment_is, order_is, agreement_is, name_is, ask_is, kind_is, told_is, fate_is, answer_is}
+use Rattle.x12_nodes.specs.Comparing.{moment_is, order_is, agreement_is, name_is, action_is, ask_is, kind_is, told_is, fate_is, answer_is}
 use Rattle.x12_nodes.specs.Log.{LogEntry, NodeAnswer, Sent, FateIs}
 use Rattle.x12_nodes.specs.Receiving.{receipt_is}
 use Rattle.x12_nodes.specs.View.{Receipt, receipt_of}
@@ -70,12 +71,79 @@ name_known m n e =
     let parts = and_parts (m.event == n.event) (m.place == n.place) e in
     ap₂ (λ i k. record { event = i; place = k }) (same_number m.event n.event parts.0) (same_number m.place n.place parts.1)
 
-pub ask_known : (a b : Ask) → ask_is a b ≡ true → a ≡ b
-ask_known (Orders to at orders) (Orders its when others) e =
+action_known : (a b : Action) → action_is a b ≡ true → a ≡ b
+action_known (Orders to at orders) (Orders its when others) e =
     let last = and_parts (is_same_party to its && moment_is at when) (pointwise order_is orders others) e in
     let first = and_parts (is_same_party to its) (moment_is at when) last.0 in
     ap₂ (λ p m. Orders p m orders) (same_party to its first.0) (moment_known at when first.1) ∙ ap (Orders its when) (orders_known orders others last.1)
-ask_known (Prepared x) (Prepared y) e = ap Prepared (bytes_known x y e)
+action_known (Prepared x) (Prepared y) e = ap Prepared (bytes_known x y e)
+action_known (Tick now) (Tick when) e = ap Tick (same_number now when e)
+action_known (Collect i) (Collect j) e = ap Collect (same_number i j e)
+action_known (Agree a) (Agree b) e = ap Agree (agreement_known a b e)
+action_known (Enrol party i) (Enrol other j) e =
+    let parts = and_parts (is_same_party party other) (i == j) e in
+    ap₂ (λ p n. Enrol p n) (same_party party other parts.0) (same_number i j parts.1)
+action_known (Dismiss party) (Dismiss other) e = ap Dismiss (same_party party other e)
+action_known Restart Restart e = refl
+action_known (Orders to at orders) (Prepared y) e = absurd cc
+action_known (Orders to at orders) (Tick when) e = absurd cc
+action_known (Orders to at orders) (Collect j) e = absurd cc
+action_known (Orders to at orders) (Agree b) e = absurd cc
+action_known (Orders to at orders) (Enrol other j) e = absurd cc
+action_known (Orders to at orders) (Dismiss other) e = absurd cc
+action_known (Orders to at orders) Restart e = absurd cc
+action_known (Prepared x) (Orders its when others) e = absurd cc
+action_known (Prepared x) (Tick when) e = absurd cc
+action_known (Prepared x) (Collect j) e = absurd cc
+action_known (Prepared x) (Agree b) e = absurd cc
+action_known (Prepared x) (Enrol other j) e = absurd cc
+action_known (Prepared x) (Dismiss other) e = absurd cc
+action_known (Prepared x) Restart e = absurd cc
+action_known (Tick now) (Orders its when others) e = absurd cc
+action_known (Tick now) (Prepared y) e = absurd cc
+action_known (Tick now) (Collect j) e = absurd cc
+action_known (Tick now) (Agree b) e = absurd cc
+action_known (Tick now) (Enrol other j) e = absurd cc
+action_known (Tick now) (Dismiss other) e = absurd cc
+action_known (Tick now) Restart e = absurd cc
+action_known (Collect i) (Orders its when others) e = absurd cc
+action_known (Collect i) (Prepared y) e = absurd cc
+action_known (Collect i) (Tick when) e = absurd cc
+action_known (Collect i) (Agree b) e = absurd cc
+action_known (Collect i) (Enrol other j) e = absurd cc
+action_known (Collect i) (Dismiss other) e = absurd cc
+action_known (Collect i) Restart e = absurd cc
+action_known (Agree a) (Orders its when others) e = absurd cc
+action_known (Agree a) (Prepared y) e = absurd cc
+action_known (Agree a) (Tick when) e = absurd cc
+action_known (Agree a) (Collect j) e = absurd cc
+action_known (Agree a) (Enrol other j) e = absurd cc
+action_known (Agree a) (Dismiss other) e = absurd cc
+action_known (Agree a) Restart e = absurd cc
+action_known (Enrol party i) (Orders its when others) e = absurd cc
+action_known (Enrol party i) (Prepared y) e = absurd cc
+action_known (Enrol party i) (Tick when) e = absurd cc
+action_known (Enrol party i) (Collect j) e = absurd cc
+action_known (Enrol party i) (Agree b) e = absurd cc
+action_known (Enrol party i) (Dismiss other) e = absurd cc
+action_known (Enrol party i) Restart e = absurd cc
+action_known (Dismiss party) (Orders its when others) e = absurd cc
+action_known (Dismiss party) (Prepared y) e = absurd cc
+action_known (Dismiss party) (Tick when) e = absurd cc
+action_known (Dismiss party) (Collect j) e = absurd cc
+action_known (Dismiss party) (Agree b) e = absurd cc
+action_known (Dismiss party) (Enrol other j) e = absurd cc
+action_known (Dismiss party) Restart e = absurd cc
+action_known Restart (Orders its when others) e = absurd cc
+action_known Restart (Prepared y) e = absurd cc
+action_known Restart (Tick when) e = absurd cc
+action_known Restart (Collect j) e = absurd cc
+action_known Restart (Agree b) e = absurd cc
+action_known Restart (Enrol other j) e = absurd cc
+action_known Restart (Dismiss other) e = absurd cc
+
+pub ask_known : (a b : Ask) → ask_is a b ≡ true → a ≡ b
+ask_known (Do a) (Do b) e = ap Do (action_known a b e)
 ask_known (Comes name from load at) (Comes its sender other when) e =
     let last = and_parts (name_is name its && from == sender && load_is load other) (moment_is at when) e in
     let mid = and_parts (name_is name its && from == sender) (load_is load other) last.0 in
@@ -85,125 +153,19 @@ ask_known (Comes name from load at) (Comes its sender other when) e =
 ask_known (Outside b at) (Outside c when) e =
     let parts = and_parts (bytes_eq b c) (moment_is at when) e in
     ap₂ (λ x m. Outside x m) (bytes_known b c parts.0) (moment_known at when parts.1)
-ask_known (Tick now) (Tick when) e = ap Tick (same_number now when e)
-ask_known (Collect i) (Collect j) e = ap Collect (same_number i j e)
-ask_known (Agree a) (Agree b) e = ap Agree (agreement_known a b e)
-ask_known (Enrol party i) (Enrol other j) e =
-    let parts = and_parts (is_same_party party other) (i == j) e in
-    ap₂ (λ p n. Enrol p n) (same_party party other parts.0) (same_number i j parts.1)
-ask_known (Dismiss party) (Dismiss other) e = ap Dismiss (same_party party other e)
-ask_known Restart Restart e = refl
 ask_known (Fate k) (Fate j) e = ap Fate (same_key k j e)
-ask_known (Orders to at orders) (Prepared y) e = absurd cc
-ask_known (Orders to at orders) (Comes its sender other when) e = absurd cc
-ask_known (Orders to at orders) (Outside c when) e = absurd cc
-ask_known (Orders to at orders) (Tick when) e = absurd cc
-ask_known (Orders to at orders) (Collect j) e = absurd cc
-ask_known (Orders to at orders) (Agree b) e = absurd cc
-ask_known (Orders to at orders) (Enrol other j) e = absurd cc
-ask_known (Orders to at orders) (Dismiss other) e = absurd cc
-ask_known (Orders to at orders) Restart e = absurd cc
-ask_known (Orders to at orders) (Fate j) e = absurd cc
-ask_known (Prepared x) (Orders its when others) e = absurd cc
-ask_known (Prepared x) (Comes its sender other when) e = absurd cc
-ask_known (Prepared x) (Outside c when) e = absurd cc
-ask_known (Prepared x) (Tick when) e = absurd cc
-ask_known (Prepared x) (Collect j) e = absurd cc
-ask_known (Prepared x) (Agree b) e = absurd cc
-ask_known (Prepared x) (Enrol other j) e = absurd cc
-ask_known (Prepared x) (Dismiss other) e = absurd cc
-ask_known (Prepared x) Restart e = absurd cc
-ask_known (Prepared x) (Fate j) e = absurd cc
-ask_known (Comes name from load at) (Orders its when others) e = absurd cc
-ask_known (Comes name from load at) (Prepared y) e = absurd cc
+ask_known (Do a) (Comes its sender other when) e = absurd cc
+ask_known (Do a) (Outside c when) e = absurd cc
+ask_known (Do a) (Fate j) e = absurd cc
+ask_known (Comes name from load at) (Do x) e = absurd cc
 ask_known (Comes name from load at) (Outside c when) e = absurd cc
-ask_known (Comes name from load at) (Tick when) e = absurd cc
-ask_known (Comes name from load at) (Collect j) e = absurd cc
-ask_known (Comes name from load at) (Agree b) e = absurd cc
-ask_known (Comes name from load at) (Enrol other j) e = absurd cc
-ask_known (Comes name from load at) (Dismiss other) e = absurd cc
-ask_known (Comes name from load at) Restart e = absurd cc
 ask_known (Comes name from load at) (Fate j) e = absurd cc
-ask_known (Outside b at) (Orders its when others) e = absurd cc
-ask_known (Outside b at) (Prepared y) e = absurd cc
+ask_known (Outside b at) (Do x) e = absurd cc
 ask_known (Outside b at) (Comes its sender other when) e = absurd cc
-ask_known (Outside b at) (Tick when) e = absurd cc
-ask_known (Outside b at) (Collect j) e = absurd cc
-ask_known (Outside b at) (Agree its) e = absurd cc
-ask_known (Outside b at) (Enrol other j) e = absurd cc
-ask_known (Outside b at) (Dismiss other) e = absurd cc
-ask_known (Outside b at) Restart e = absurd cc
 ask_known (Outside b at) (Fate j) e = absurd cc
-ask_known (Tick now) (Orders its when others) e = absurd cc
-ask_known (Tick now) (Prepared y) e = absurd cc
-ask_known (Tick now) (Comes its sender other when) e = absurd cc
-ask_known (Tick now) (Outside c when) e = absurd cc
-ask_known (Tick now) (Collect j) e = absurd cc
-ask_known (Tick now) (Agree b) e = absurd cc
-ask_known (Tick now) (Enrol other j) e = absurd cc
-ask_known (Tick now) (Dismiss other) e = absurd cc
-ask_known (Tick now) Restart e = absurd cc
-ask_known (Tick now) (Fate j) e = absurd cc
-ask_known (Collect i) (Orders its when others) e = absurd cc
-ask_known (Collect i) (Prepared y) e = absurd cc
-ask_known (Collect i) (Comes its sender other when) e = absurd cc
-ask_known (Collect i) (Outside c when) e = absurd cc
-ask_known (Collect i) (Tick when) e = absurd cc
-ask_known (Collect i) (Agree b) e = absurd cc
-ask_known (Collect i) (Enrol other j) e = absurd cc
-ask_known (Collect i) (Dismiss other) e = absurd cc
-ask_known (Collect i) Restart e = absurd cc
-ask_known (Collect i) (Fate j) e = absurd cc
-ask_known (Agree a) (Orders its when others) e = absurd cc
-ask_known (Agree a) (Prepared y) e = absurd cc
-ask_known (Agree a) (Comes its sender other when) e = absurd cc
-ask_known (Agree a) (Outside c when) e = absurd cc
-ask_known (Agree a) (Tick when) e = absurd cc
-ask_known (Agree a) (Collect j) e = absurd cc
-ask_known (Agree a) (Enrol other j) e = absurd cc
-ask_known (Agree a) (Dismiss other) e = absurd cc
-ask_known (Agree a) Restart e = absurd cc
-ask_known (Agree a) (Fate j) e = absurd cc
-ask_known (Enrol party i) (Orders its when others) e = absurd cc
-ask_known (Enrol party i) (Prepared y) e = absurd cc
-ask_known (Enrol party i) (Comes its sender other when) e = absurd cc
-ask_known (Enrol party i) (Outside c when) e = absurd cc
-ask_known (Enrol party i) (Tick when) e = absurd cc
-ask_known (Enrol party i) (Collect j) e = absurd cc
-ask_known (Enrol party i) (Agree b) e = absurd cc
-ask_known (Enrol party i) (Dismiss other) e = absurd cc
-ask_known (Enrol party i) Restart e = absurd cc
-ask_known (Enrol party i) (Fate j) e = absurd cc
-ask_known (Dismiss party) (Orders its when others) e = absurd cc
-ask_known (Dismiss party) (Prepared y) e = absurd cc
-ask_known (Dismiss party) (Comes its sender other when) e = absurd cc
-ask_known (Dismiss party) (Outside c when) e = absurd cc
-ask_known (Dismiss party) (Tick when) e = absurd cc
-ask_known (Dismiss party) (Collect j) e = absurd cc
-ask_known (Dismiss party) (Agree b) e = absurd cc
-ask_known (Dismiss party) (Enrol other j) e = absurd cc
-ask_known (Dismiss party) Restart e = absurd cc
-ask_known (Dismiss party) (Fate j) e = absurd cc
-ask_known Restart (Orders its when others) e = absurd cc
-ask_known Restart (Prepared y) e = absurd cc
-ask_known Restart (Comes its sender other when) e = absurd cc
-ask_known Restart (Outside c when) e = absurd cc
-ask_known Restart (Tick when) e = absurd cc
-ask_known Restart (Collect j) e = absurd cc
-ask_known Restart (Agree b) e = absurd cc
-ask_known Restart (Enrol other j) e = absurd cc
-ask_known Restart (Dismiss other) e = absurd cc
-ask_known Restart (Fate j) e = absurd cc
-ask_known (Fate k) (Orders its when others) e = absurd cc
-ask_known (Fate k) (Prepared y) e = absurd cc
+ask_known (Fate k) (Do x) e = absurd cc
 ask_known (Fate k) (Comes its sender other when) e = absurd cc
 ask_known (Fate k) (Outside c when) e = absurd cc
-ask_known (Fate k) (Tick when) e = absurd cc
-ask_known (Fate k) (Collect j) e = absurd cc
-ask_known (Fate k) (Agree b) e = absurd cc
-ask_known (Fate k) (Enrol other j) e = absurd cc
-ask_known (Fate k) (Dismiss other) e = absurd cc
-ask_known (Fate k) Restart e = absurd cc
 
 kind_decides : (k l : Kind) → Decides (kind_is k l) (k ≡ l)
 kind_decides IsDeposit IsDeposit = (λ e. refl, λ e. refl)

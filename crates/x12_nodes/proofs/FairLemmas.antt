@@ -1,7 +1,7 @@
 -- What was checked of each entry by itself holds of the merge.
 use Rattle.std.proofs.Common.{◌≡◌, ℕ, ◌<◌, List, [], ◌∷◌, ◌++◌, Contains, map, sym, ap, subst, inl, inr, arith, append_assoc}
 use Rattle.std.proofs.lemmas.List.Elements.{Contains-append_cases, Contains-append_right}
-use Rattle.x12_core.specs.Ask.{Ask, Orders, Prepared, Comes, Outside, Tick, Collect, Agree, Enrol, Dismiss, Restart, Fate}
+use Rattle.x12_core.specs.Ask.{Ask, Do, Comes, Outside, Fate}
 use Rattle.x12_core.specs.Packet.{Packet, PacketName}
 use Rattle.x12_world.specs.Network.{Network}
 use Rattle.x12_nodes.specs.Law.{IsSentBy, IsFair, AllFair, IsFairAmong, FairAmongIsFair}
@@ -43,14 +43,7 @@ module _ (net : Network) where
   fair_one : (before : List Logged) (s : ℕ) (x : Logged) (xs : List Logged) → Rises s (x ∷ xs) → (k : Ask) → IsFairAmong net (before ++ x ∷ xs) x.entry.stamp x.node k → IsFair net before x.node k
   fair_one before s x xs rises (Comes name from load at) c = sent_before before s x xs name _ rises c.1 c.0
   fair_one before s x xs rises (Outside b at) c = c
-  fair_one before s x xs rises (Collect j) c = c
-  fair_one before s x xs rises (Enrol party j) c = c
-  fair_one before s x xs rises (Orders to at orders) c = tt
-  fair_one before s x xs rises (Prepared b) c = tt
-  fair_one before s x xs rises (Tick now) c = tt
-  fair_one before s x xs rises (Agree a) c = tt
-  fair_one before s x xs rises (Dismiss party) c = tt
-  fair_one before s x xs rises Restart c = tt
+  fair_one before s x xs rises (Do a) c = c
   fair_one before s x xs rises (Fate key) c = tt
 
   all_fair : (before xs : List Logged) (s : ℕ) → Rises s xs → ((x : Logged) → Contains xs x → IsFairAmong net (before ++ xs) x.entry.stamp x.node x.entry.ask) → AllFair net before xs

@@ -1,5 +1,5 @@
 -- Cells that were made as the nodes of a network.
-use Rattle.std.proofs.Common.{◌≡◌, ℕ, suc, ◌+◌, ◌≤◌, List, [], ◌∷◌, ◌++◌, Bool, true, false, ◌==◌, ◌&&◌, nat_le, if◌then◌else◌, Option, None, Some, IsTrue, IsSome, map, length, refl, sym, ap, ap₂, subst, ◌∙◌, inl, inr, arith}
+use Rattle.std.proofs.Common.{◌≡◌, ℕ, suc, ◌+◌, ◌≤◌, List, [], ◌∷◌, ◌++◌, Bool, true, ◌==◌, ◌&&◌, nat_le, Option, None, Some, IsTrue, map, length, refl, sym, ap, ap₂, subst, ◌∙◌, inl, inr, arith}
 use Rattle.std.specs.List.{list_all}
 use Rattle.std.specs.Prelude.{All, is_none, option_map, option_to_list}
 use Rattle.std.proofs.lemmas.Bool.{and_parts}
@@ -24,7 +24,6 @@ use Rattle.x12_station.specs.Station.{new_station}
 use Rattle.x12_world.proofs.FoundingLemmas.{differ_means}
 use Rattle.x12_world.specs.Founding.{all_differ}
 use Rattle.x12_world.specs.Network.{Member, Network, IsNetwork, IsHubNumber, believed_at, new_nodes, parties_in}
-use Rattle.x12_world.specs.Nodes.{Nodes}
 
 abbrev pub member_of : CellView → Member
 member_of c = record { party = party_opened c.opening; home = c.site.hub }

@@ -3,7 +3,7 @@ use Rattle.std.proofs.Common.{◌≡◌, ℕ, zero, suc, ◌+◌, ◌-◌, ◌^�
 use Rattle.std.proofs.lemmas.Bool.Decides.{eqb_tells, nat_tests}
 use Rattle.std.proofs.lemmas.List.{append-nil, map-append, length-map}
 use Rattle.std.proofs.lemmas.List.Elements.{Contains-push_cases, filter-append}
-use Rattle.x12_core.specs.Ask.{Ask, Orders, Prepared, Comes, Outside, Tick, Collect, Agree, Enrol, Dismiss, Restart, Fate, does_at, fate_told}
+use Rattle.x12_core.specs.Ask.{Ask, Do, Comes, Outside, Fate, does_at, fate_told}
 use Rattle.x12_core.specs.Node.{Node, second_hub_node}
 use Rattle.x12_core.specs.Packet.{Packet, PacketName}
 use Rattle.x12_nodes.specs.Law.{IsSentBy, IsFair, AllFair, EachReplays, MergeIsRun}
@@ -16,7 +16,7 @@ use Rattle.x12_outbound.specs.declared.fate.Fate.{Fate as SetFate}
 use Rattle.x12_profile.specs.Laws.{Laws}
 use Rattle.x12_profile.specs.X12.{x12}
 use Rattle.x12_station.proofs.ListLemmas.{get_map}
-use Rattle.x12_world.specs.Effect.{act_of, after_act}
+use Rattle.x12_world.specs.Effect.{asked_by, after_asked}
 use Rattle.x12_world.specs.EventRefusal.{EventRefusal, is_at_end}
 use Rattle.x12_world.specs.Packet.{packet_of, named}
 use Rattle.x12_world.specs.Run.{happens, run, new_world}
@@ -187,16 +187,9 @@ found before stamp w name q behind stood sent =
 -- a fate that is told was asked for, and that is no event
 fate_is_none : (i : ℕ) (name_of : PacketName → PacketName) (k : Ask) (n : Node) (fate : Option SetFate) → fate_told x12 k n ≡ Some fate → event_at i name_of k ≡ None
 fate_is_none i name_of (Fate key) n fate e = refl
-fate_is_none i name_of (Orders to at orders) n fate e = absurd cc
-fate_is_none i name_of (Prepared x) n fate e = absurd cc
+fate_is_none i name_of (Do a) n fate e = absurd cc
 fate_is_none i name_of (Comes name from load at) n fate e = absurd cc
 fate_is_none i name_of (Outside b at) n fate e = absurd cc
-fate_is_none i name_of (Tick now) n fate e = absurd cc
-fate_is_none i name_of (Collect j) n fate e = absurd cc
-fate_is_none i name_of (Agree a) n fate e = absurd cc
-fate_is_none i name_of (Enrol party j) n fate e = absurd cc
-fate_is_none i name_of (Dismiss party) n fate e = absurd cc
-fate_is_none i name_of Restart n fate e = absurd cc
 
 module _ (laws : Laws x12) (net : Network) (net_is : IsNetwork x12 net) where
   -- what one entry makes of a world
@@ -211,20 +204,13 @@ module _ (laws : Laws x12) (net : Network) (net_is : IsNetwork x12 net) where
 
     went : (s : ℕ) (sends : List Packet) (k : Ask) → stamp < s → s < 2 ^ 64 - 1 → IsFair net before i k → does_at x12 (site_of w.nodes i) k a ≡ Some (record { node = mid; sends = sends })
         → Went w (event_at i (name_in (events_in before)) k) i mid sends
-    went s sends (Orders to m os) low high fair does = record { event = _; is = refl; taken = taking.orders net w sound (room s low high) i a mid sends at to m os does }
-    went s sends (Prepared x) low high fair does = record { event = _; is = refl; taken = taking.prepared net w sound (room s low high) i a mid sends at x does }
+    went s sends (Do x) low high fair does = record { event = _; is = refl; taken = taking.acts net w sound (room s low high) i a mid sends at x fair does }
     went s sends (Comes name from load m) low high fair does = record {
       event = _;
       is = refl;
       taken = taking.comes net w sound (room s low high) i a mid sends at (name_in (events_in before) name) from load m name (found before stamp w name _ behind stood fair) does;
     }
     went s sends (Outside b m) low high fair does = record { event = _; is = refl; taken = taking.comes_outside net w sound (room s low high) i a mid sends at b m fair does }
-    went s sends (Tick now) low high fair does = record { event = _; is = refl; taken = taking.ticks net w sound (room s low high) i a mid sends at now does }
-    went s sends (Collect j) low high fair does = record { event = _; is = refl; taken = taking.collects net w sound (room s low high) i a mid sends at j fair does }
-    went s sends (Agree t) low high fair does = record { event = _; is = refl; taken = taking.agrees net w sound (room s low high) i a mid sends at t does }
-    went s sends (Enrol party j) low high fair does = record { event = _; is = refl; taken = taking.enrols net w sound (room s low high) i a mid sends at party j fair does }
-    went s sends (Dismiss party) low high fair does = record { event = _; is = refl; taken = taking.dismisses net w sound (room s low high) i a mid sends at party does }
-    went s sends Restart low high fair does = record { event = _; is = refl; taken = taking.restarts net w sound (room s low high) i a mid sends at does }
     went s sends (Fate key) low high fair does = absurd cc
 
   -- the entry of node i is the first of its own list
@@ -319,7 +305,7 @@ module _ (laws : Laws x12) (net : Network) (net_is : IsNetwork x12 net) where
 
   -- an event that is taken makes the next world
   happened : (w : World) (e : Event) (nodes : Nodes) (sends : List Packet) → IsTaken w e nodes sends → happens x12 w e ≡ record { nodes = nodes; packets = w.packets ++ named (suc w.events) 1 sends; events = suc w.events }
-  happened w e nodes sends t = ap (λ (r : Option EventRefusal). if is_some r then w else after_act x12 w (act_of x12 w e)) t.table ∙ t.after
+  happened w e nodes sends t = ap (λ (r : Option EventRefusal). if is_some r then w else after_asked x12 w (asked_by w.packets e)) t.table ∙ t.after
 
   record Ends (w : World) (before xs : List Logged) (last : Nodes) : Type 0 where
     world : World

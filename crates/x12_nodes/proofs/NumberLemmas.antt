@@ -3,7 +3,7 @@ use Rattle.std.proofs.Common.{◌≡◌, ℕ, zero, suc, ◌+◌, ◌<◌, ◌�
 use Rattle.std.proofs.lemmas.Bool.Decides.{nat_tests}
 use Rattle.std.proofs.lemmas.List.Elements.{Contains-push_cases, filter-append}
 use Rattle.x12_nodes.specs.Merge.{Logged, number_at}
-use Rattle.x12_numbers.proofs.Shelf.{contains_head, contains_tail, contains_cons, none_in_nil, some_inj}
+use Rattle.x12_numbers.proofs.Shelf.{contains_head, contains_tail, some_inj}
 use Rattle.x12_station.proofs.ListLemmas.{get_contains}
 
 count_all : (xs : List Logged) (s : ℕ) → ((x : Logged) → Contains xs x → x.entry.stamp ≤ s) → number_at xs s ≡ length xs

@@ -1,5 +1,5 @@
 -- What was checked of passes makes their receipts those of the merge.
-use Rattle.std.proofs.Common.{◌≡◌, ℕ, suc, ◌<◌, List, [], ◌∷◌, true, ◌==◌, nat_lt, Option, Some, None, IsTrue, Contains, map, length, refl, slice_get, option_and_then, sym, ap, subst, ◌∙◌, inl, inr, arith}
+use Rattle.std.proofs.Common.{◌≡◌, ℕ, suc, ◌<◌, List, [], ◌∷◌, true, ◌==◌, nat_lt, Option, Some, None, IsTrue, Contains, map, length, refl, option_and_then, sym, ap, subst, ◌∙◌, inl, inr, arith}
 use Rattle.std.proofs.lemmas.Bool.{and_parts}
 use Rattle.std.proofs.lemmas.Option.{slice_get_within}
 use Rattle.std.specs.List.{list_all}

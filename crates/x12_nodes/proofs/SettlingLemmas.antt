@@ -5,17 +5,18 @@ use Rattle.std.specs.List.{list_all}
 use Rattle.std.proofs.lemmas.Bool.Decides.{nat_tests}
 use Rattle.std.proofs.lemmas.List.{length-map}
 use Rattle.std.proofs.lemmas.Option.{get_or_from_slice_get, slice_get_within}
-use Rattle.x12_core.specs.Ask.{Ask, Orders, Prepared, Comes, Outside, Tick, Collect, Agree, Enrol, Dismiss, Restart, Fate}
+use Rattle.x12_core.specs.Action.{node_served}
+use Rattle.x12_core.specs.Ask.{Ask, Do, Comes, Outside, Fate}
 use Rattle.x12_core.specs.Node.{Node}
 use Rattle.x12_core.specs.Packet.{Load, Deposit, Item, Refusal, Taken, Packet, PacketName}
 use Rattle.x12_nodes.specs.Cell.{CellView, IsReplayed, opening_node}
 use Rattle.x12_nodes.specs.Cells.{cell_at, nodes_now, split}
-use Rattle.x12_nodes.specs.Check.{all_ask_for_nodes, all_came_rightly, asks_for_node, came_rightly, load_is, names_one, packet_from, packet_is, parties_opened, are_network, are_numbered, is_replay, stamps_logged}
+use Rattle.x12_nodes.specs.Check.{all_ask_for_nodes, all_came_rightly, asks_for_node, came_rightly, is_another, load_is, names_one, packet_from, packet_is, parties_opened, are_network, are_numbered, is_replay, stamps_logged}
 use Rattle.x12_nodes.specs.Settling.{all_cells_answer, AreOneRun}
 use Rattle.x12_nodes.proofs.CellsLemmas.{cells_apart, home_is, node_is, number_at_place, number_of, same_number}
 use Rattle.x12_nodes.proofs.FoundingLemmas.{opens_network, OpensAs}
 use Rattle.x12_nodes.specs.Finding.{entry_at, packet_at_place, packet_sent}
-use Rattle.x12_nodes.specs.Law.{IsAnother, IsSentBy, NamesNone, IsFairAmong, AllFair, EachReplays, MergeIsRun, FairAmongIsFair}
+use Rattle.x12_nodes.specs.Law.{IsAnother, IsSentBy, NamesNone, ServesAnother, IsFairAmong, AllFair, EachReplays, MergeIsRun, FairAmongIsFair}
 use Rattle.x12_nodes.specs.Log.{LogEntry, Replays, StampsRise}
 use Rattle.x12_nodes.specs.Merge.{Logged, entries_of}
 use Rattle.x12_nodes.specs.Merging.{merged_onto, stamp_itself, stamps_rise_from}
@@ -245,6 +246,10 @@ module _ (cells : List CellView) (replayed : (c : CellView) → Contains cells c
         λ same. false_is_never_true (sym (not-true (i == j) parts.1) ∙ rw same (eq_itself j)),
       )
 
+  served : (i : ℕ) (o : Option ℕ) → is_another cells i o ≡ true → ServesAnother net i o
+  served i None e = tt
+  served i (Some j) e = of_other i j e
+
   fair_by : (i stamp : ℕ) (k : Ask) → came_rightly cells i stamp k ≡ true → asks_for_node cells i k ≡ true → IsFairAmong net all stamp i k
   fair_by i stamp (Comes name from load at) c a =
       let parts = and_parts (nat_lt name.event stamp) (packet_is (record { from = from; to = i; load = load }) (packet_from cells from name)) c in
@@ -252,14 +257,7 @@ module _ (cells : List CellView) (replayed : (c : CellView) → Contains cells c
       let s = sender_known cells from name (record { from = from; to = i; load = load }) (cell_at cells from) refl is in
       (was_sent s.0 from name (record { from = from; to = i; load = load }) s.1 s.2, less_known name.event stamp parts.0)
   fair_by i stamp (Outside b at) c a = subst (λ ps. NamesNone ps b) opens.parties (not-true (names_one (parties_opened cells) b) c)
-  fair_by i stamp (Collect j) c a = of_other i j a
-  fair_by i stamp (Enrol party j) c a = of_other i j a
-  fair_by i stamp (Orders to at orders) c a = tt
-  fair_by i stamp (Prepared x) c a = tt
-  fair_by i stamp (Tick now) c a = tt
-  fair_by i stamp (Agree t) c a = tt
-  fair_by i stamp (Dismiss party) c a = tt
-  fair_by i stamp Restart c a = tt
+  fair_by i stamp (Do x) c a = served i (node_served x) a
   fair_by i stamp (Fate key) c a = tt
 
   fair_one : (x : Logged) → Contains all x → IsFairAmong net all x.entry.stamp x.node x.entry.ask

@@ -1,15 +1,16 @@
 -- What the logs list are the submissions of the stations that they made.
-use Rattle.std.specs.Prelude.{◌≡◌, ◌≢◌, ℕ, zero, suc, ◌+◌, ◌<◌, List, [], ◌∷◌, ◌++◌, Bool, true, false, ◌==◌, cond, Option, Some, None, IsTrue, All, Contains, filter, flat_map, is_none, map, option_map, option_to_list, slice_get, refl}
+use Rattle.std.specs.Prelude.{◌≡◌, ◌≢◌, ℕ, zero, suc, ◌+◌, ◌<◌, List, [], ◌∷◌, ◌++◌, true, false, Option, Some, None, IsTrue, All, Contains, flat_map, map, option_map, option_to_list, slice_get, refl}
 use mathlib.Core.Path.{sym, ap, subst, ◌∙◌}
 use native.Mathlib.Omega.{arith}
 use Rattle.std.proofs.Common.{ne_eqb}
 use Rattle.std.proofs.lemmas.Grind.{flat_map-append}
 use Rattle.std.proofs.lemmas.List.{append-nil, append_assoc, map-append}
 use Rattle.std.proofs.lemmas.List.Elements.{Contains-append_left, Contains-append_right}
-use Rattle.x12_core.specs.Ask.{Ask, Orders, Prepared, Comes, Outside, Tick, Collect, Agree, Enrol, Dismiss, Restart, Fate, does_at}
+use Rattle.x12_core.specs.Ask.{Ask, Do, Comes, Outside, Fate, does_at}
+use Rattle.x12_core.proofs.ActionLemmas.{Submits, submits_none, submits_one, acts_submit, hub_acts}
 use Rattle.x12_core.specs.Effect.{Effect, deposits, from_hub, from_station, reports_taken}
 use Rattle.x12_core.specs.Node.{Node, IsHub, IsStation, is_hub}
-use Rattle.x12_core.specs.Packet.{Kind, Load, Deposit, Item, Refusal, Taken, Packet}
+use Rattle.x12_core.specs.Packet.{Kind, Deposit, Item, Refusal, Taken, Packet}
 use Rattle.x12_core.specs.Submission.{submitted_numbers}
 use Rattle.x12_core.specs.declared.packet.Site.{Site}
 use Rattle.x12_core.specs.declared.submission.Listed.{Listed}
@@ -21,20 +22,19 @@ use Rattle.x12_nodes.specs.Cells.{nodes_opened, split}
 use Rattle.x12_nodes.proofs.CellsLemmas.{split_whole}
 use Rattle.x12_nodes.specs.Settling.{all_cells_answer, AreOneRun}
 use Rattle.x12_nodes.proofs.SettlingLemmas.{each_answers, each_replayed}
-use Rattle.x12_nodes.specs.Log.{LogEntry, NodeAnswer, Sent, FateIs, AnswersSo, Replays, number_in_first, number_submitted, told_of_packets}
+use Rattle.x12_nodes.specs.Log.{LogEntry, NodeAnswer, Sent, FateIs, AnswersSo, Replays, number_in_first, number_submitted}
 use Rattle.x12_nodes.specs.Unlocking.{listed_as, listed_in, listed_in_logs, listed_of, number_told, states_in}
 use Rattle.x12_nodes.specs.Merge.{events_behind}
 use Rattle.x12_numbers.proofs.Shelf.{contains_head, eq_itself, if_some_parts, some_inj}
 use Rattle.x12_station.proofs.ListLemmas.{get_contains}
-use Rattle.x12_profile.specs.Interchange.{Bytes, Order}
+use Rattle.x12_profile.specs.Interchange.{Bytes}
 use Rattle.x12_profile.specs.X12.{x12}
 use Rattle.x12_station.specs.History.{Submitted, submissions}
 use Rattle.x12_station.specs.Station.{Station, new_station}
-use Rattle.x12_station.specs.StationRefusal.{orders_refusal, written_orders}
-use Rattle.x12_station.specs.StationStep.{StationStep, arrive, entered, may_submit, submit, submit_orders}
+use Rattle.x12_station.specs.StationStep.{StationStep, arrive, entered, may_submit, submit}
 use Rattle.x12_station.proofs.ItemLemmas.{submissions-append}
 use Rattle.x12_hub.specs.Hub.{Hub, HubStep, deposit, new_hub}
-use Rattle.x12_world.specs.Audit.{station_in, stations_of}
+use Rattle.x12_world.specs.Audit.{station_in}
 use Rattle.x12_world.specs.Audits.{HasStations}
 use Rattle.x12_world.specs.Loss.{Happening, run_so}
 use Rattle.x12_world.specs.Reach.{IsReachable, ReachLaws}
@@ -95,28 +95,17 @@ arrived_one i first s at b e is =
     let f = from_step i first (arrive x12 s at b) e is in
     same_after s f.step.station e.node f.node (arrival_keeps s at b f.step f.is)
 
-quiet_one : (s t : Station) (e : Effect) → Some (record { node = IsStation t; sends = [] }) ≡ Some e → submitted_numbers t ≡ submitted_numbers s → IsAfter s [] e.node
-quiet_one s t e is same = same_after s t e.node (sym (ap (λ (f : Effect). f.node) (some_inj is))) same
-
 acted_one : (i : Site) (ask : Ask) (s : Station) (e : Effect) → does_at x12 i ask (IsStation s) ≡ Some e → IsAfter s (option_to_list (number_submitted ask e.sends)) e.node
-acted_one i (Orders to at orders) s e is =
-    let f = from_step i [] (submit_orders x12 s to at orders) e is in
-    let y = written_orders x12 s to at orders in
-    let asked : submit x12 s y ≡ submit_orders x12 s to at orders =
-    (if_some_parts (is_none (orders_refusal x12 s to at orders)) (submit x12 s y) f.step f.is).1 ∙ sym f.is in
-    submitted_one i s y e (ap (from_station i []) asked ∙ is)
-acted_one i (Prepared x) s e is = submitted_one i s x e is
+acted_one i (Do a) s e is = by (acts_submit i a s e is)
+  where
+    by : Submits i a s e → IsAfter s (option_to_list (number_submitted (Do a) e.sends)) e.node
+    by (submits_one x told from) = rw told (submitted_one i s x e from)
+    by (submits_none t isnt node same) = rw isnt (same_after s t e.node node same)
 acted_one i (Comes name from (Item item b) at) s e is = arrived_one i (reports_taken i.node from item ∷ []) s at b e is
 acted_one i (Comes name from (Refusal b) at) s e is = arrived_one i [] s at b e is
 acted_one i (Comes name from (Deposit b) at) s e is = absurd (cc)
 acted_one i (Comes name from (Taken item) at) s e is = absurd (cc)
 acted_one i (Outside b at) s e is = arrived_one i [] s at b e is
-acted_one i (Tick now) s e is = let f = from_step i [] _ e is in same_after s f.step.station e.node f.node (ap (λ (t : StationStep). submitted_numbers t.station) (sym (some_inj f.is)))
-acted_one i (Collect j) s e is = absurd (cc)
-acted_one i (Agree a) s e is = quiet_one s _ e is refl
-acted_one i (Enrol party j) s e is = absurd (cc)
-acted_one i (Dismiss party) s e is = absurd (cc)
-acted_one i Restart s e is = quiet_one s _ e is refl
 acted_one i (Fate k) s e is = absurd (cc)
 
 number_of_sent : {n m : Option ℕ} {t u : List (ℕ × Kind)} → Sent n t ≡ Sent m u → n ≡ m
@@ -151,19 +140,12 @@ quiet_hub : (h : Hub) (sends : List Packet) (e : Effect) → Some (record { node
 quiet_hub h sends e is = ap (λ (f : Effect). is_hub (Some f.node)) (sym (some_inj is))
 
 acted_hub : (i : Site) (ask : Ask) (h : Hub) (e : Effect) → does_at x12 i ask (IsHub h) ≡ Some e → is_hub (Some e.node) ≡ true
-acted_hub i (Orders to at orders) h e is = absurd (cc)
-acted_hub i (Prepared x) h e is = absurd (cc)
+acted_hub i (Do a) h e is = (hub_acts i a h e is).1
 acted_hub i (Comes name from (Item item b) at) h e is = from_hub_node i.node (reports_taken i.node from item ∷ []) (Some from) (deposit x12 h at b) e is
 acted_hub i (Comes name from (Refusal b) at) h e is = from_hub_node i.node [] None (deposit x12 h at b) e is
 acted_hub i (Comes name from (Deposit b) at) h e is = from_hub_node i.node [] (Some from) (deposit x12 h at b) e is
 acted_hub i (Comes name from (Taken item) at) h e is = quiet_hub _ [] e is
 acted_hub i (Outside b at) h e is = from_hub_node i.node [] None (deposit x12 h at b) e is
-acted_hub i (Tick now) h e is = absurd (cc)
-acted_hub i (Collect j) h e is = quiet_hub h _ e is
-acted_hub i (Agree a) h e is = absurd (cc)
-acted_hub i (Enrol party j) h e is = quiet_hub _ [] e is
-acted_hub i (Dismiss party) h e is = quiet_hub _ [] e is
-acted_hub i Restart h e is = quiet_hub h [] e is
 acted_hub i (Fate k) h e is = absurd (cc)
 
 answered_hub : (i : Site) (ask : Ask) (sends : List Packet) (answer : NodeAnswer) (h : Hub) (new : Node) → AnswersSo i ask sends answer (IsHub h) new → is_hub (Some new) ≡ true
@@ -177,16 +159,9 @@ replayed_hub i (e ∷ es) (IsHub h) new was r = replayed_hub i es r.0 new (answe
 
 -- and what it was asked submitted nothing
 none_submitted : (i : Site) (ask : Ask) (h : Hub) (sends : List Packet) (e : Effect) → does_at x12 i ask (IsHub h) ≡ Some e → number_submitted ask sends ≡ None
-none_submitted i (Orders to at orders) h sends e is = absurd (cc)
-none_submitted i (Prepared x) h sends e is = absurd (cc)
+none_submitted i (Do a) h sends e is = rw (hub_acts i a h e is).0 refl
 none_submitted i (Comes name from load at) h sends e is = refl
 none_submitted i (Outside b at) h sends e is = refl
-none_submitted i (Tick now) h sends e is = refl
-none_submitted i (Collect j) h sends e is = refl
-none_submitted i (Agree a) h sends e is = refl
-none_submitted i (Enrol party j) h sends e is = refl
-none_submitted i (Dismiss party) h sends e is = refl
-none_submitted i Restart h sends e is = refl
 none_submitted i (Fate k) h sends e is = refl
 
 none_told : (i : Site) (ask : Ask) (sends : List Packet) (answer : NodeAnswer) (h : Hub) (new : Node) → AnswersSo i ask sends answer (IsHub h) new → number_told answer ≡ None

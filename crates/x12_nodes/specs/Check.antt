@@ -2,7 +2,7 @@
 -- their callers.
 use Rattle.std.specs.Prelude.{◌+◌, ◌==◌, ◌&&◌, not, nat_le, nat_lt, ℕ, List, [], ◌∷◌, Bool, true, false, Option, Some, None, bytes_eq, length, map, option_and_then, if◌then◌else◌, is_none, is_some}
 use Rattle.std.specs.List.{list_all, list_any}
-use Rattle.x12_core.specs.Ask.{Ask, Comes, Outside, Collect, Enrol}
+use Rattle.x12_core.specs.Ask.{Ask, Comes, Outside, node_meant}
 use Rattle.x12_core.specs.Packet.{Load, Deposit, Item, Refusal, Taken, Packet, PacketName}
 use Rattle.x12_envelopes.specs.declared.party.Party.{Party}
 use Rattle.x12_envelopes.specs.Party.{is_plain_party}
@@ -125,11 +125,14 @@ abbrev pub are_numbered : ℕ → List CellView → Bool
 are_numbered n [] = true
 are_numbered n (c ∷ cells) = c.site.node == n && are_numbered (n + 1) cells
 
+-- there is a cell of this number, and it is another than that of node i; or no number is given
+abbrev pub is_another : List CellView → ℕ → Option ℕ → Bool
+is_another cells i None = true
+is_another cells i (Some j) = is_some (cell_at cells j) && not (i == j)
+
 -- a mailbox that hub i is asked for is that of another node
 abbrev pub asks_for_node : List CellView → ℕ → Ask → Bool
-asks_for_node cells i (Collect j) = is_some (cell_at cells j) && not (i == j)
-asks_for_node cells i (Enrol party j) = is_some (cell_at cells j) && not (i == j)
-asks_for_node cells i ask = true
+asks_for_node cells i ask = is_another cells i (node_meant ask)
 
 -- each node is asked so
 abbrev pub all_ask_for_nodes : List CellView → List CellView → Bool

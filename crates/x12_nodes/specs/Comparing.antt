@@ -3,8 +3,9 @@ use Rattle.std.specs.Prelude.{◌&&◌, ◌==◌, ℕ, Bool, true, false, bytes_
 use Rattle.std.specs.Cmp.Lexicographic.{pointwise}
 use Rattle.std.specs.Option.{option_eq}
 use Rattle.x12_acks.specs.Key.{is_same_key}
-use Rattle.x12_core.specs.Ask.{Ask, Orders, Prepared, Comes, Outside, Tick, Collect, Agree, Enrol}
-use Rattle.x12_core.specs.Ask.{Dismiss, Restart, Fate}
+use Rattle.x12_core.specs.Action.{Action, Orders, Prepared, Tick, Collect, Agree, Enrol, Dismiss}
+use Rattle.x12_core.specs.Action.{Restart}
+use Rattle.x12_core.specs.Ask.{Ask, Do, Comes, Outside, Fate}
 use Rattle.x12_core.specs.Packet.{PacketName, Kind, IsDeposit, IsItem, IsRefusal, IsTaken}
 use Rattle.x12_envelopes.specs.declared.moment.Moment.{Moment}
 use Rattle.x12_judge.specs.Agreement.{TradingAgreement, is_same_party}
@@ -30,20 +31,25 @@ agreement_is a b = is_same_party a.partner b.partner
 abbrev pub name_is : PacketName → PacketName → Bool
 name_is m n = m.event == n.event && m.place == n.place
 
+-- the same is done
+abbrev pub action_is : Action → Action → Bool
+action_is (Orders to at orders) (Orders its when others) =
+    is_same_party to its && moment_is at when && pointwise order_is orders others
+action_is (Prepared x) (Prepared y) = bytes_eq x y
+action_is (Tick now) (Tick when) = now == when
+action_is (Collect i) (Collect j) = i == j
+action_is (Agree a) (Agree b) = agreement_is a b
+action_is (Enrol party i) (Enrol other j) = is_same_party party other && i == j
+action_is (Dismiss party) (Dismiss other) = is_same_party party other
+action_is Restart Restart = true
+action_is a b = false
+
 -- the same is asked
 abbrev pub ask_is : Ask → Ask → Bool
-ask_is (Orders to at orders) (Orders its when others) =
-    is_same_party to its && moment_is at when && pointwise order_is orders others
-ask_is (Prepared x) (Prepared y) = bytes_eq x y
+ask_is (Do a) (Do b) = action_is a b
 ask_is (Comes name from load at) (Comes its sender other when) =
     name_is name its && from == sender && load_is load other && moment_is at when
 ask_is (Outside b at) (Outside c when) = bytes_eq b c && moment_is at when
-ask_is (Tick now) (Tick when) = now == when
-ask_is (Collect i) (Collect j) = i == j
-ask_is (Agree a) (Agree b) = agreement_is a b
-ask_is (Enrol party i) (Enrol other j) = is_same_party party other && i == j
-ask_is (Dismiss party) (Dismiss other) = is_same_party party other
-ask_is Restart Restart = true
 ask_is (Fate k) (Fate j) = is_same_key k j
 ask_is ask other = false
 

@@ -1,7 +1,8 @@
 -- The law of the merge: what has to hold of logs, entry by entry, so that they are one run.
-use Rattle.std.specs.Prelude.{◌≡◌, ◌≢◌, ◌<◌, ◌&&◌, ◌++◌, ℕ, suc, List, [], ◌∷◌, false, Some, IsSome, Contains, is_some, length, map, slice_get}
+use Rattle.std.specs.Prelude.{◌≡◌, ◌≢◌, ◌<◌, ◌&&◌, ◌++◌, ℕ, suc, List, [], ◌∷◌, false, Option, Some, None, IsSome, Contains, is_some, length, map, slice_get}
 use Rattle.std.specs.List.{list_any}
-use Rattle.x12_core.specs.Ask.{Ask, Comes, Outside, Collect, Enrol}
+use Rattle.x12_core.specs.Action.{node_served}
+use Rattle.x12_core.specs.Ask.{Ask, Do, Comes, Outside, Fate}
 use Rattle.x12_core.specs.Node.{Node}
 use Rattle.x12_core.specs.Packet.{Packet, PacketName}
 use Rattle.x12_envelopes.specs.declared.party.Party.{Party}
@@ -28,6 +29,11 @@ pub record IsSentBy (xs : List Logged) (name : PacketName) (q : Packet) : Type 0
 abbrev pub IsAnother : Network → ℕ → ℕ → Type 0
 IsAnother net i j = IsSome (node_at (new_nodes net) j) × (i ≢ j)
 
+-- a mailbox that is served is another node's, if one is
+abbrev pub ServesAnother : Network → ℕ → Option ℕ → Type 0
+ServesAnother net i None = Unit {0}
+ServesAnother net i (Some j) = IsAnother net i j
+
 -- bytes that name none of these parties as their sender
 abbrev pub NamesNone : List Party → List ℕ → Type 0
 NamesNone parties b =
@@ -39,9 +45,8 @@ abbrev pub IsFair : Network → (before : List Logged) → ℕ → Ask → Type 
 IsFair net before i (Comes name from load at) =
     IsSentBy before name (record { from = from; to = i; load = load })
 IsFair net before i (Outside b at) = NamesNone (parties_in net) b
-IsFair net before i (Collect j) = IsAnother net i j
-IsFair net before i (Enrol party j) = IsAnother net i j
-IsFair net before i ask = Unit {0}
+IsFair net before i (Do a) = ServesAnother net i (node_served a)
+IsFair net before i (Fate k) = Unit {0}
 
 -- each entry is fair, behind those before
 abbrev pub AllFair : Network → (before xs : List Logged) → Type 0
@@ -73,9 +78,8 @@ abbrev pub IsFairAmong : Network → (all : List Logged) → (stamp i : ℕ) →
 IsFairAmong net all stamp i (Comes name from load at) =
     IsSentBy all name (record { from = from; to = i; load = load }) × (name.event < stamp)
 IsFairAmong net all stamp i (Outside b at) = NamesNone (parties_in net) b
-IsFairAmong net all stamp i (Collect j) = IsAnother net i j
-IsFairAmong net all stamp i (Enrol party j) = IsAnother net i j
-IsFairAmong net all stamp i ask = Unit {0}
+IsFairAmong net all stamp i (Do a) = ServesAnother net i (node_served a)
+IsFairAmong net all stamp i (Fate k) = Unit {0}
 
 -- where stamps rise, that is enough
 abbrev pub FairAmongIsFair : Type 0

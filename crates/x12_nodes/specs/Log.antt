@@ -1,7 +1,8 @@
 -- The log of a node: each call that it took, with its answer, and what the calls make of the node.
-use Rattle.std.specs.Prelude.{◌≡◌, ◌<◌, ◌-◌, ◌^◌, ℕ, List, [], ◌∷◌, Bool, true, false, Option, Some, None, map, if◌then◌else◌, option_map}
+use Rattle.std.specs.Prelude.{◌≡◌, ◌<◌, ◌-◌, ◌^◌, ℕ, List, [], ◌∷◌, Bool, false, Option, Some, None, map, if◌then◌else◌, option_map}
 use Rattle.x12_core.specs.declared.packet.Site.{Site}
-use Rattle.x12_core.specs.Ask.{Ask, Orders, Prepared, does_at, fate_told}
+use Rattle.x12_core.specs.Action.{submits}
+use Rattle.x12_core.specs.Ask.{Ask, Do, does_at, fate_told}
 use Rattle.x12_core.specs.Node.{Node}
 use Rattle.x12_core.specs.Packet.{Packet, Kind, carried, kind_of_load}
 use Rattle.x12_outbound.specs.declared.fate.Fate.{Fate as SetFate}
@@ -22,8 +23,7 @@ pub record LogEntry : Type 0 where
 
 -- whether it asks a station to submit
 abbrev pub is_submission_asked : Ask → Bool
-is_submission_asked (Orders to at orders) = true
-is_submission_asked (Prepared x) = true
+is_submission_asked (Do a) = submits a
 is_submission_asked ask = false
 
 -- the number (ISA13) of the interchange in the first packet, if that carries one

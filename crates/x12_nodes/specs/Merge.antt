@@ -1,6 +1,6 @@
 -- The logs of all nodes, merged by their stamps, as one run of the network.
 use Rattle.std.specs.Prelude.{◌≡◌, ◌==◌, ◌++◌, ℕ, suc, List, [], ◌∷◌, Bool, true, false, Option, Some, None, filter, length, map, nat_le}
-use Rattle.x12_core.specs.Ask.{Ask, Orders, Prepared, Comes, Outside, Tick, Collect, Agree, Enrol, Dismiss, Restart, Fate, fate_told}
+use Rattle.x12_core.specs.Ask.{Ask, Do, Comes, Outside, Fate, fate_told}
 use Rattle.x12_core.specs.Node.{Node}
 use Rattle.x12_core.specs.Packet.{PacketName}
 use Rattle.x12_nodes.specs.Log.{NodeAnswer, Sent, FateIs, LogEntry, answer_to_sends}
@@ -42,16 +42,9 @@ name_in xs name = record { event = number_at xs name.event; place = name.place }
 
 -- the network's event that this is, where packets are named so
 abbrev pub event_at : ℕ → (PacketName → PacketName) → Ask → Option Event
-event_at i name_of (Orders to at orders) = Some (event.SubmitOrders i to at orders)
-event_at i name_of (Prepared x) = Some (event.SubmitPrepared i x)
+event_at i name_of (Do a) = Some (event.At i a)
 event_at i name_of (Comes name from load at) = Some (event.Deliver (name_of name) at)
 event_at i name_of (Outside b at) = Some (event.Outside i b at)
-event_at i name_of (Tick now) = Some (event.Tick i now)
-event_at i name_of (Collect j) = Some (event.Collect i j)
-event_at i name_of (Agree a) = Some (event.Agree i a)
-event_at i name_of (Enrol party j) = Some (event.Enrol i party j)
-event_at i name_of (Dismiss party) = Some (event.Dismiss i party)
-event_at i name_of Restart = Some (event.Restart i)
 event_at i name_of (Fate k) = None
 
 -- the event of an entry behind these

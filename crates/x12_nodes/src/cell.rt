@@ -1,17 +1,15 @@
 //! A node's cell: its core, and the log that made it what it is.
 
-ghost use Rattle.std.specs.Prelude.{◌≡◌, ◌⊎◌, [], map, not, true, false, IsTrue, IfOk, IfErr};
-ghost use Rattle.std.specs.Prelude.{OnOk, OnErr, Err, Some};
-ghost use Rattle.x12_core.specs.Ask.{is_for, suits};
+ghost use Rattle.std.specs.Prelude.{◌≡◌, ◌⊎◌, [], map, true, false, IsTrue, IfOk, IfErr};
+ghost use Rattle.std.specs.Prelude.{OnOk, OnErr, Err};
+ghost use Rattle.x12_core.specs.Ask.{suits};
 ghost use Rattle.x12_core.specs.Core.{core_answers, node_of};
-ghost use Rattle.x12_core.specs.Node.{IsStation};
-ghost use Rattle.x12_core.specs.View.{ask_view, load_view, packet_view};
+ghost use Rattle.x12_core.specs.View.{ask_view, packet_view};
 ghost use Rattle.x12_nodes.specs.Cell.{opening_node, stamp_may_follow, IsCellRefusal};
 ghost use Rattle.x12_nodes.specs.Cell.{IsNewCore};
 ghost use Rattle.x12_nodes.specs.Cell.{CellWasCounted, StaysSo, TakesCall};
 ghost use Rattle.x12_nodes.specs.declared.fault.CellFault.TheVariants.{WrongKind};
 ghost use Rattle.x12_nodes.specs.View.{node_answer_view, log_entry_view, receipt_view};
-ghost use Rattle.x12_station.specs.Station.{Station};
 
 use crate::copying::copied_packets;
 use crate::fault::CellFault;
@@ -20,7 +18,7 @@ use crate::opening::{Opening, opening_of};
 use crate::writing::{make_room, written};
 use std::alloc::{AllocError, Global};
 use std::marker::Model;
-use x12_core::{Ask, Core, Load, Packet, Site};
+use x12_core::{Ask, Core, Packet, Site};
 use x12_hub::HubRecords;
 use x12_station::Records;
 
@@ -64,43 +62,6 @@ impl<R: Records, H: HubRecords> Model for NodeCell<R, H> {
       answers = core_answers c.core;
       failures = core_failures c.core;
     }) };
-}
-
-/// Whether a load is for hubs alone: a deposit or a report.
-fn is_for_hub(load: &Load) -> bool
-    ensures { (s : Station) →
-        not result ≡ is_for (load_view load.now) (Some (IsStation s)) }
-{
-    match load {
-        Load::Deposit(_) => true,
-        Load::Taken(_) => true,
-        Load::Item(_, _) => false,
-        Load::Refusal(_) => false,
-    }
-}
-
-/// Whether the node of this number, with a core of this kind, is asked so.
-fn suits<R: Records, H: HubRecords>(node: u16, core: &Core<R, H>, ask: &Ask) -> bool
-    ensures { result ≡ suits node (ask_view ask.now) (node_of core.now) }
-{
-    match core {
-        Core::Station(_) => match ask {
-            Ask::Deliver { load, .. } => !is_for_hub(load),
-            Ask::Collect { .. } => false,
-            Ask::Enrol { .. } => false,
-            Ask::Dismiss { .. } => false,
-            _ => true,
-        },
-        Core::Hub(_) => match ask {
-            Ask::Deliver { .. } => true,
-            Ask::Outside { .. } => true,
-            Ask::Collect { node: other } => node != *other,
-            Ask::Enrol { node: other, .. } => node != *other,
-            Ask::Dismiss { .. } => true,
-            Ask::Restart => true,
-            _ => false,
-        },
-    }
 }
 
 /// Whether a stamp may follow the last one.
@@ -151,7 +112,7 @@ impl<R: Records, H: HubRecords> NodeCell<R, H> {
     pub(crate) fn suits(&self, ask: &Ask) -> bool
         ensures { result ≡ suits self.now.site.node (ask_view ask.now) self.now.now }
     {
-        suits(self.site.node, &self.core, ask)
+        self.core.suits(self.site.node, ask)
     }
 
     /// Takes a call, as `apply` does, and gives the answer too.
@@ -178,7 +139,7 @@ impl<R: Records, H: HubRecords> NodeCell<R, H> {
         ensures unchanged { IfErr result (λ f. StaysSo self.old self.new
             × CellWasCounted f self.old.failures self.new.failures) }
     {
-        if !suits(self.site.node, &self.core, &ask) {
+        if !self.core.suits(self.site.node, &ask) {
             return Err(CellFault::WrongKind);
         }
         let count = self.core.bound(&ask);

@@ -136,10 +136,9 @@ pub(crate) fn all_come_rightly<R: Records, H: HubRecords>(
 fn is_for_node<R: Records, H: HubRecords>(cells: &[NodeCell<R, H>], hub: u16, ask: &Ask) -> bool
     ensures { result ≡ asks_for_node cells.now hub (ask_view ask.now) }
 {
-    match ask {
-        Ask::Collect { node } => cell_of(cells, *node).is_some() && hub != *node,
-        Ask::Enrol { node, .. } => cell_of(cells, *node).is_some() && hub != *node,
-        _ => true,
+    match ask.node_meant() {
+        Some(node) => cell_of(cells, node).is_some() && hub != node,
+        None => true,
     }
 }
 

@@ -3,81 +3,24 @@
 ghost use Rattle.std.specs.Prelude.{◌≡◌, map};
 ghost use Rattle.std.specs.Cmp.Lexicographic.{pointwise};
 ghost use Rattle.std.specs.Option.{option_eq};
-ghost use Rattle.x12_core.specs.Ask.{Comes, Orders};
+ghost use Rattle.x12_core.specs.Ask.{Comes};
 ghost use Rattle.x12_core.specs.View.{ask_view, kind_view, load_view, name_view, packet_view};
-ghost use Rattle.x12_judge.specs.Agreement.{agreement_view};
-ghost use Rattle.x12_nodes.specs.Comparing.{agreement_is, answer_is, ask_is, fate_is, kind_is};
-ghost use Rattle.x12_nodes.specs.Comparing.{moment_is, name_is, order_is, told_is};
+ghost use Rattle.x12_nodes.specs.Comparing.{answer_is, ask_is, fate_is, kind_is, name_is, told_is};
 ghost use Rattle.x12_nodes.specs.Log.{told_of_packets};
 ghost use Rattle.x12_nodes.specs.View.{answer_kept, node_answer_view, told_kind_view};
-ghost use Rattle.x12_station.specs.Ordering.{order_view};
 
+use crate::actions::{is_action, is_moment};
 use crate::finding::is_same_load;
 use crate::log::{Answer, Kept};
 use x12_core::{Ask, Kind, Load, Packet, PacketName};
-use x12_envelopes::{Moment, Party};
-use x12_judge::Agreement;
+use x12_envelopes::Moment;
 use x12_outbound::Fate;
-use x12_station::Body;
-
-/// Whether two moments are the same.
-fn is_moment(one: Moment, other: Moment) -> bool
-    ensures { result ≡ moment_is one other }
-{
-    one == other
-}
-
-/// Whether two orders are the same.
-fn is_order(one: &Body, other: &Body) -> bool
-    ensures { result ≡ order_is (order_view one.now) (order_view other.now) }
-{
-    one.segments == other.segments
-}
-
-/// Whether these orders are the same.
-fn are_orders(orders: &[Body], others: &[Body]) -> bool
-    ensures { result ≡ pointwise order_is (map order_view orders.now) (map order_view others.now) }
-{
-    let (mut left, mut right) = (orders, others);
-    while let Some((one, more)) = left.split_first() {
-        let Some((other, rest)) = right.split_first() else {
-            return false;
-        };
-        if !is_order(one, other) {
-            return false;
-        }
-        left = more;
-        right = rest;
-    }
-    right.is_empty()
-}
-
-/// Whether two agreements are the same.
-fn is_agreement(one: &Agreement, other: &Agreement) -> bool
-    ensures { result ≡ agreement_is (agreement_view one.now) (agreement_view other.now) }
-{
-    one.partner == other.partner && one.pairs == other.pairs
-}
 
 /// Whether two names are the same.
 fn is_name(one: &PacketName, other: &PacketName) -> bool
     ensures { result ≡ name_is (name_view one.now) (name_view other.now) }
 {
     one == other
-}
-
-/// Whether these orders are submitted.
-fn submits(to: &Party, at: Moment, orders: &[Body], other: &Ask) -> bool
-    ensures { result ≡ ask_is (Orders to.now at (map order_view orders.now)) (ask_view other.now) }
-{
-    match other {
-        Ask::SubmitOrders {
-            to: its,
-            at: when,
-            orders: others,
-        } => to == its && is_moment(at, *when) && are_orders(orders, others),
-        _ => false,
-    }
 }
 
 /// Whether this packet comes.
@@ -106,7 +49,7 @@ pub(crate) fn is_ask(one: &Ask, other: &Ask) -> bool
     ensures { result ≡ ask_is (ask_view one.now) (ask_view other.now) }
 {
     match (one, other) {
-        (Ask::SubmitOrders { to, at, orders }, _) => submits(to, *at, orders, other),
+        (Ask::Do(action), Ask::Do(other)) => is_action(action, other),
         (
             Ask::Deliver {
                 packet,
@@ -116,7 +59,6 @@ pub(crate) fn is_ask(one: &Ask, other: &Ask) -> bool
             },
             _,
         ) => brings(packet, *from, load, *at, other),
-        (Ask::SubmitPrepared { bytes }, Ask::SubmitPrepared { bytes: others }) => bytes == others,
         (
             Ask::Outside { bytes, at },
             Ask::Outside {
@@ -124,20 +66,6 @@ pub(crate) fn is_ask(one: &Ask, other: &Ask) -> bool
                 at: when,
             },
         ) => { bytes == others && is_moment(*at, *when) }
-        (Ask::Tick { now }, Ask::Tick { now: when }) => now == when,
-        (Ask::Collect { node }, Ask::Collect { node: other }) => node == other,
-        (Ask::Agree { agreement }, Ask::Agree { agreement: other }) => {
-            is_agreement(agreement, other)
-        }
-        (
-            Ask::Enrol { party, node },
-            Ask::Enrol {
-                party: other,
-                node: its,
-            },
-        ) => { party == other && node == its }
-        (Ask::Dismiss { party }, Ask::Dismiss { party: other }) => party == other,
-        (Ask::Restart, Ask::Restart) => true,
         (Ask::Fate { key }, Ask::Fate { key: other }) => key == other,
         _ => false,
     }

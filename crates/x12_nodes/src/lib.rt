@@ -2,6 +2,7 @@
 //! logs are one run of the network.
 #![tactic(auto)]
 
+mod actions;
 mod cell;
 mod cells;
 mod checking;

@@ -98,8 +98,12 @@ pub(crate) fn submitted(ask: &Ask, packets: &[Packet]) -> Option<u32>
     ensures { result ≡ number_submitted (ask_view ask.now) (map packet_view packets.now) }
 {
     match ask {
-        Ask::SubmitOrders { .. } => first_number(packets),
-        Ask::SubmitPrepared { .. } => first_number(packets),
+        Ask::Do(action) => {
+            if action.submits() {
+                return first_number(packets);
+            }
+            None
+        }
         _ => None,
     }
 }

@@ -213,10 +213,9 @@ impl Wire {
 
     /// Whether a hub is asked so for a mailbox that a node has.
     pub(crate) fn has_mailbox(&self, ask: &Ask) -> bool {
-        match ask {
-            Ask::Collect { node } => self.has_node(*node),
-            Ask::Enrol { node, .. } => self.has_node(*node),
-            _ => true,
+        match ask.node_meant() {
+            Some(node) => self.has_node(node),
+            None => true,
         }
     }
 

@@ -4,7 +4,7 @@ use crate::fixture::{ALPHA, ORDER, TestCell, bytes, end, hub_core, site, station
 use std::alloc::Global;
 use std::process::Abort;
 use std::test::Fail;
-use x12_core::{Ask, HUB_NODE, Load, Packet};
+use x12_core::{Action, Ask, HUB_NODE, Load, Packet};
 use x12_nodes::{CellFault, NodeCell};
 
 /// Whether a cell refuses an ask under a stamp with this fault.
@@ -17,16 +17,23 @@ fn refuses(cell: &mut TestCell, stamp: u64, ask: Ask, fault: CellFault) -> bool 
 
 /// Stamps that don't follow the last one, and a kind of ask that the hub hasn't.
 fn follows(rt: &impl Abort, hub: &mut TestCell) -> Result<(), Fail> {
-    let (receipt, packets) = hub.apply(7, Ask::Restart)?;
+    let (receipt, packets) = hub.apply(7, Ask::Do(Action::Restart))?;
     assert!(rt; receipt.node == 0 && receipt.stamp == 7 && packets.is_empty());
     for stamp in [7, 6, 0, u64::MAX] {
         assert!(rt;
-            refuses(hub, stamp, Ask::Restart, CellFault::WentBack),
+            refuses(hub, stamp, Ask::Do(Action::Restart), CellFault::WentBack),
             "{stamp}"
         );
     }
-    assert!(rt; refuses(hub, 8, Ask::Tick { now: 1 }, CellFault::WrongKind));
-    let (receipt, _) = hub.apply(8, Ask::Restart)?;
+    assert!(rt;
+        refuses(
+            hub,
+            8,
+            Ask::Do(Action::Tick { now: 1 }),
+            CellFault::WrongKind
+        )
+    );
+    let (receipt, _) = hub.apply(8, Ask::Do(Action::Restart))?;
     assert_eq!(rt; receipt.stamp, 8);
     Ok(())
 }
@@ -61,12 +68,12 @@ fn alphas_cell(rt: &impl Abort, alloc: Global) -> TestCell {
 fn a_call_gives_copies_of_what_it_sends(rt: HostRuntime) -> Result<(), Fail> {
     let alloc = rt.alloc();
     let mut alpha = alphas_cell(&rt, alloc);
-    let prepared = Ask::SubmitPrepared {
+    let prepared = Ask::Do(Action::SubmitPrepared {
         bytes: bytes(&rt, alloc, ORDER),
-    };
+    });
     let first = alpha.apply(1, prepared);
     // it is sent again, so the log kept what it needs
-    let again = alpha.apply(2, Ask::Tick { now: 9 });
+    let again = alpha.apply(2, Ask::Do(Action::Tick { now: 9 }));
     end(alpha.end());
     let (first, again) = (first?, again?);
     assert!(rt; are_deposit(&first.1));

@@ -10,7 +10,7 @@ use crate::kept_station::{RecordsOfStation, records_of_station};
 use std::alloc::Global;
 use std::process::Abort;
 use std::sync::Wait;
-use x12_core::{Ask, Core, HUB_NODE, Kind, PacketName, Site};
+use x12_core::{Action, Ask, Core, HUB_NODE, Kind, PacketName, Site};
 use x12_envelopes::{Moment, Party};
 use x12_hub::Hub;
 use x12_judge::Agreement;
@@ -172,17 +172,17 @@ pub(crate) fn ask_of<W: Wait + Abort>(
     line: Line,
 ) -> Ask {
     match line {
-        Line::Enrol(party, node) => Ask::Enrol { party, node },
-        Line::Agree(partner) => Ask::Agree {
+        Line::Enrol(party, node) => Ask::Do(Action::Enrol { party, node }),
+        Line::Agree(partner) => Ask::Do(Action::Agree {
             agreement: agreed(rt, alloc, partner),
-        },
-        Line::Submit => Ask::SubmitPrepared {
+        }),
+        Line::Submit => Ask::Do(Action::SubmitPrepared {
             bytes: bytes(rt, alloc, ORDER),
-        },
+        }),
         Line::Deliver(from, event, place) => delivery(rt, wire, from, node, event, place),
-        Line::Tick(now) => Ask::Tick { now },
-        Line::Collect(node) => Ask::Collect { node },
-        Line::Restart => Ask::Restart,
+        Line::Tick(now) => Ask::Do(Action::Tick { now }),
+        Line::Collect(node) => Ask::Do(Action::Collect { node }),
+        Line::Restart => Ask::Do(Action::Restart),
     }
 }
 

@@ -7,7 +7,7 @@ use crate::fixture::{
 use std::alloc::Global;
 use std::process::Abort;
 use std::test::Fail;
-use x12_core::{Ask, HUB_NODE, Load, PacketName};
+use x12_core::{Action, Ask, HUB_NODE, Load, PacketName};
 use x12_envelopes::Party;
 use x12_nodes::{Check, NodeCell, Pass, SettleFault, Wire, check_logs};
 
@@ -52,12 +52,12 @@ const fn wrong(check: Check) -> Option<SettleFault> {
 fn logs_that_fit_together_are_one_run(rt: HostRuntime) -> Result<(), Fail> {
     let alloc = rt.alloc();
     let mut cells = cells(&rt, alloc);
-    let prepared = Ask::SubmitPrepared {
+    let prepared = Ask::Do(Action::SubmitPrepared {
         bytes: bytes(&rt, alloc, ORDER),
-    };
+    });
     takes(&rt, &mut cells, 1, 3, prepared);
     takes(&rt, &mut cells, 0, 5, deposit(&rt, alloc, 3));
-    takes(&rt, &mut cells, 2, 4, Ask::Tick { now: 1 });
+    takes(&rt, &mut cells, 2, 4, Ask::Do(Action::Tick { now: 1 }));
     takes(&rt, &mut cells, 0, 9, deposit(&rt, alloc, 3));
     assert!(&rt; found(&rt, alloc, cells).is_none());
     Ok(())
@@ -67,8 +67,8 @@ fn logs_that_fit_together_are_one_run(rt: HostRuntime) -> Result<(), Fail> {
 fn a_stamp_at_two_nodes_is_found(rt: HostRuntime) -> Result<(), Fail> {
     let alloc = rt.alloc();
     let mut cells = cells(&rt, alloc);
-    takes(&rt, &mut cells, 1, 3, Ask::Tick { now: 1 });
-    takes(&rt, &mut cells, 2, 3, Ask::Tick { now: 1 });
+    takes(&rt, &mut cells, 1, 3, Ask::Do(Action::Tick { now: 1 }));
+    takes(&rt, &mut cells, 2, 3, Ask::Do(Action::Tick { now: 1 }));
     assert_eq!(&rt; found(&rt, alloc, cells), wrong(Check::Stamp));
     Ok(())
 }
@@ -80,7 +80,13 @@ fn a_packet_that_was_never_sent_is_found(rt: HostRuntime) -> Result<(), Fail> {
         let mut cells = cells(&rt, alloc);
         if submitted != 0 {
             let bytes = bytes(&rt, alloc, ORDER);
-            takes(&rt, &mut cells, 1, submitted, Ask::SubmitPrepared { bytes });
+            takes(
+                &rt,
+                &mut cells,
+                1,
+                submitted,
+                Ask::Do(Action::SubmitPrepared { bytes }),
+            );
         }
         takes(&rt, &mut cells, 0, came, deposit(&rt, alloc, named));
         let fault = found(&rt, alloc, cells);
@@ -119,7 +125,7 @@ fn nodes_of_no_network_are_found(rt: HostRuntime) -> Result<(), Fail> {
     let hubs: Vec<TestCell> = vec![in alloc; first, second].expect(&rt, "memory was missing");
     assert_eq!(&rt; found(&rt, alloc, hubs), wrong(Check::Replay));
     let mut cells = cells(&rt, alloc);
-    takes(&rt, &mut cells, 0, 1, Ask::Collect { node: 3 });
+    takes(&rt, &mut cells, 0, 1, Ask::Do(Action::Collect { node: 3 }));
     assert_eq!(&rt; found(&rt, alloc, cells), wrong(Check::Replay));
     Ok(())
 }

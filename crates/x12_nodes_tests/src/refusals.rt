@@ -7,7 +7,7 @@ use std::alloc::Global;
 use std::process::Abort;
 use std::sync::Wait;
 use std::test::Fail;
-use x12_core::{Ask, Load, PacketName};
+use x12_core::{Action, Ask, Load, PacketName};
 use x12_envelopes::Party;
 use x12_nodes::{CallFault, Gate, GateCall, GateFault, Pass, Wire};
 
@@ -71,14 +71,23 @@ fn are_of_other_nodes<W: Wait + Abort>(
     pass: &mut Pass,
 ) {
     let kind = CallFault::WrongKind;
-    assert!(rt; refuses(rt, hub, wire, pass, Ask::Tick { now: 1 }, kind));
-    assert!(rt; refuses(rt, alpha, wire, pass, Ask::Collect { node: 1 }, kind));
+    assert!(rt; refuses(rt, hub, wire, pass, Ask::Do(Action::Tick { now: 1 }), kind));
+    assert!(rt;
+        refuses(
+            rt,
+            alpha,
+            wire,
+            pass,
+            Ask::Do(Action::Collect { node: 1 }),
+            kind
+        )
+    );
     for node in [0, 3] {
         assert!(rt;
-            refuses(rt, hub, wire, pass, Ask::Collect { node }, kind),
+            refuses(rt, hub, wire, pass, Ask::Do(Action::Collect { node }), kind),
             "{node}"
         );
-        let enrol = Ask::Enrol { party: BETA, node };
+        let enrol = Ask::Do(Action::Enrol { party: BETA, node });
         assert!(rt; refuses(rt, hub, wire, pass, enrol, kind), "{node}");
     }
 }
@@ -178,8 +187,14 @@ fn ticks_through<W: Wait>(
         gate: &Second,
         call,
     };
-    node.call_through(rt, wire, &through, pass, Ask::Tick { now: call })
-        .err()
+    node.call_through(
+        rt,
+        wire,
+        &through,
+        pass,
+        Ask::Do(Action::Tick { now: call }),
+    )
+    .err()
 }
 
 #[test]

@@ -5,7 +5,7 @@ ghost use Rattle.std.specs.Prelude.{◌≡◌, IfOk, length};
 use crate::founding::{is_station, party_of};
 use itoa::Buffer;
 use std::alloc::{AllocError, Global};
-use x12_core::{Ask, Site};
+use x12_core::{Action, Ask, Site};
 use x12_envelopes::{Moment, Party};
 use x12_judge::Agreement;
 use x12_station::Body;
@@ -39,15 +39,15 @@ fn submission(
     let date = at.date();
     let mut orders = Vec::new(alloc);
     orders.push(order(alloc, &text, &date)?)?;
-    Ok(Ask::SubmitOrders { to, at, orders })
+    Ok(Ask::Do(Action::SubmitOrders { to, at, orders }))
 }
 
 /// That a station takes orders of a party.
 fn agreement(alloc: Global, partner: Party) -> Result<Ask, AllocError> {
     let pairs = Vec::from_slice(alloc, &[(*b"PO", *b"850")])?;
-    Ok(Ask::Agree {
+    Ok(Ask::Do(Action::Agree {
         agreement: Agreement { partner, pairs },
-    })
+    }))
 }
 
 /// That a hub enrols a station: with the station's own mailbox, or with that of the hub where it is.
@@ -57,10 +57,10 @@ fn enrolment(hub: u16, station: &Site) -> Ask {
     } else {
         station.hub
     };
-    Ask::Enrol {
+    Ask::Do(Action::Enrol {
         party: party_of(station.node),
         node,
-    }
+    })
 }
 
 /// A hub enrols all stations.
@@ -89,7 +89,7 @@ fn jobs_of_station(
     jobs.push(agreement(alloc, party_of(front))?)?;
     for number in 0..orders {
         if number == orders / 2 {
-            jobs.push(Ask::Restart)?;
+            jobs.push(Ask::Do(Action::Restart))?;
         }
         let number = number.saturating_add(1);
         jobs.push(submission(alloc, at, party_of(next), station, number)?)?;

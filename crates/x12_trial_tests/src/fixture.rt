@@ -4,7 +4,7 @@ use std::alloc::Global;
 use std::process::Abort;
 use std::sync::Wait;
 use std::thread::Threads;
-use x12_core::{Ask, HUB_NODE, PacketName, SECOND_HUB_NODE, Site};
+use x12_core::{Action, Ask, HUB_NODE, PacketName, SECOND_HUB_NODE, Site};
 use x12_hub::MemoryHubRecords;
 use x12_links::FaultPlan;
 use x12_network::{NetFault, Network, RunPlan, Tally, run_network};
@@ -192,7 +192,7 @@ fn rotates(pass: &Pass, mailboxes: &[u16]) -> bool {
     let mut next = 0_usize;
     let mut count = 0_usize;
     for receipt in pass.receipts() {
-        if let Ask::Collect { node } = &receipt.event {
+        if let Ask::Do(Action::Collect { node }) = &receipt.event {
             if mailboxes.get(next) != Some(node) {
                 return false;
             }

@@ -2,7 +2,7 @@
 
 use crate::fixture::{NODES, TWO_HUBS, pending_of, run_to_end, sites_of};
 use std::test::Fail;
-use x12_core::{Ask, HUB_NODE, SECOND_HUB_NODE, Site};
+use x12_core::{Action, Ask, HUB_NODE, SECOND_HUB_NODE, Site};
 use x12_nodes::Gate;
 use x12_trial::{jobs_of_nodes, moment, parties, sites};
 
@@ -80,7 +80,7 @@ fn a_hub_names_the_other_one_for_its_stations(rt: HostRuntime) -> Result<(), Fai
         assert_eq!(rt; its.len(), wanted.len());
         for (place, job) in its.iter().enumerate() {
             let named = match job {
-                Ask::Enrol { node, .. } => Some(node),
+                Ask::Do(Action::Enrol { node, .. }) => Some(node),
                 _ => None,
             };
             assert_eq!(rt; named, wanted.get(place));

@@ -4,6 +4,7 @@
 
 mod reporting;
 mod script;
+mod script_action;
 mod script_bad_line;
 mod script_event;
 mod script_fault;

@@ -40,50 +40,6 @@ pub(crate) fn station<'a>(mut words: Words<'a>) -> Result<Line<'a>, LineFault<'a
     Ok(Line::Station(Member { name, at_second }))
 }
 
-/// `enrol PARTY NODE [HUB2]`
-pub(crate) fn enrol<'a>(mut words: Words<'a>) -> Result<Line<'a>, LineFault<'a>> {
-    let party = words.name()?;
-    let node = words.name()?;
-    let hub = words.hub()?;
-    Ok(Line::Event(EventLine::Enrol { party, node, hub }))
-}
-
-/// `dismiss PARTY [HUB2]`
-pub(crate) fn dismiss<'a>(mut words: Words<'a>) -> Result<Line<'a>, LineFault<'a>> {
-    let party = words.name()?;
-    let hub = words.hub()?;
-    Ok(Line::Event(EventLine::Dismiss { party, hub }))
-}
-
-/// `agree NODE PARTY PAIR..`
-pub(crate) fn agree<'a>(mut words: Words<'a>) -> Result<Line<'a>, LineFault<'a>> {
-    let node = words.name()?;
-    let partner = words.name()?;
-    Ok(Line::Event(EventLine::Agree {
-        node,
-        partner,
-        pairs: words,
-    }))
-}
-
-/// `orders NODE PARTY TEXT..`
-pub(crate) fn orders<'a>(mut words: Words<'a>) -> Result<Line<'a>, LineFault<'a>> {
-    let node = words.name()?;
-    let to = words.name()?;
-    Ok(Line::Event(EventLine::Orders {
-        node,
-        to,
-        texts: words,
-    }))
-}
-
-/// `prepared NODE BYTES`
-pub(crate) fn prepared<'a>(mut words: Words<'a>) -> Result<Line<'a>, LineFault<'a>> {
-    let node = words.name()?;
-    let bytes = words.bytes()?;
-    Ok(Line::Event(EventLine::Prepared { node, bytes }))
-}
-
 /// `outside NODE BYTES`
 pub(crate) fn outside<'a>(mut words: Words<'a>) -> Result<Line<'a>, LineFault<'a>> {
     let node = words.name()?;
@@ -94,26 +50,6 @@ pub(crate) fn outside<'a>(mut words: Words<'a>) -> Result<Line<'a>, LineFault<'a
 /// `deliver EVENT.PLACE`
 pub(crate) fn deliver<'a>(words: Words<'a>) -> Result<Line<'a>, LineFault<'a>> {
     Ok(Line::Event(EventLine::Deliver(packet(words)?)))
-}
-
-/// `tick NODE N`
-pub(crate) fn tick<'a>(mut words: Words<'a>) -> Result<Line<'a>, LineFault<'a>> {
-    let node = words.name()?;
-    let now = words.number(u64::MAX)?;
-    words.end()?;
-    Ok(Line::Event(EventLine::Tick { node, now }))
-}
-
-/// `collect NODE [HUB2]`
-pub(crate) fn collect<'a>(mut words: Words<'a>) -> Result<Line<'a>, LineFault<'a>> {
-    let node = words.name()?;
-    let hub = words.hub()?;
-    Ok(Line::Event(EventLine::Collect { node, hub }))
-}
-
-/// `restart NODE`
-pub(crate) fn restart<'a>(words: Words<'a>) -> Result<Line<'a>, LineFault<'a>> {
-    Ok(Line::Event(EventLine::Restart(named(words)?)))
 }
 
 /// `show EVENT.PLACE`

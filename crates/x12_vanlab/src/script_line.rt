@@ -1,7 +1,7 @@
 //! A line of a script, as it is read.
 
+use crate::script_action::ActionLine;
 use crate::script_name::{Member, Name};
-use crate::script_word::Words;
 use x12_envelopes::Moment;
 use x12_world::PacketName;
 
@@ -44,51 +44,10 @@ pub(crate) struct SetPlace {
 /// What happens.
 #[derive(Clone, Copy)]
 pub(crate) enum EventLine<'a> {
-    /// A party gets its mailbox at a hub, for a node.
-    Enrol {
-        party: Name,
-        node: Name,
-        hub: Name,
-    },
-    /// A party loses its mailbox at a hub.
-    Dismiss {
-        party: Name,
-        hub: Name,
-    },
-    /// A station agrees on these pairs with a partner.
-    Agree {
-        node: Name,
-        partner: Name,
-        pairs: Words<'a>,
-    },
-    /// A station submits orders with these texts.
-    Orders {
-        node: Name,
-        to: Name,
-        texts: Words<'a>,
-    },
-    /// A station submits these bytes.
-    Prepared {
-        node: Name,
-        bytes: &'a [u8],
-    },
-    /// These bytes come to a node from outside.
-    Outside {
-        node: Name,
-        bytes: &'a [u8],
-    },
+    /// A node does something of itself.
+    At(ActionLine<'a>),
     /// A packet comes to its node.
     Deliver(PacketName),
-    /// A station sends again what is due.
-    Tick {
-        node: Name,
-        now: u64,
-    },
-    /// A hub sends what waits for a node.
-    Collect {
-        node: Name,
-        hub: Name,
-    },
-    /// A node starts again.
-    Restart(Name),
+    /// These bytes come to a node from outside.
+    Outside { node: Name, bytes: &'a [u8] },
 }

@@ -1,11 +1,11 @@
 //! Reading a line of a script.
 
+use crate::script_action::read_action;
 use crate::script_fault::LineFault;
 use crate::script_form::{
-    agree, clock, collect, counts, deliver, dismiss, enrol, fate, orders, outside, postings,
-    prepared, report, restart, second_hub, show, station, tick,
+    clock, counts, deliver, fate, outside, postings, report, second_hub, show, station,
 };
-use crate::script_line::Line;
+use crate::script_line::{EventLine, Line};
 use crate::script_word::{Words, cut_at, text_of};
 
 /// Whether a line ends with bytes as they stand: of `prepared` or `outside`, with a space behind the
@@ -46,21 +46,16 @@ pub(crate) fn read_line<'a>(line: &'a [u8]) -> Result<Line<'a>, LineFault<'a>> {
         "clock" => clock(Words::new(rest, "clock DATE TIME")),
         "hub2" => second_hub(Words::new(rest, "hub2")),
         "station" => station(Words::new(rest, "station NAME")),
-        "enrol" => enrol(Words::new(rest, "enrol PARTY NODE")),
-        "dismiss" => dismiss(Words::new(rest, "dismiss PARTY")),
-        "agree" => agree(Words::new(rest, "agree NODE PARTY PAIR..")),
-        "orders" => orders(Words::new(rest, "orders NODE PARTY TEXT..")),
-        "prepared" => prepared(Words::new(rest, "prepared NODE BYTES")),
         "outside" => outside(Words::new(rest, "outside NODE BYTES")),
         "deliver" => deliver(Words::new(rest, "deliver EVENT.PLACE")),
-        "tick" => tick(Words::new(rest, "tick NODE NUMBER")),
-        "collect" => collect(Words::new(rest, "collect NODE")),
-        "restart" => restart(Words::new(rest, "restart NODE")),
         "show" => show(Words::new(rest, "show EVENT.PLACE")),
         "fate" => fate(Words::new(rest, "fate NODE ICN GROUP SET")),
         "counts" => counts(Words::new(rest, "counts NODE")),
         "postings" => postings(Words::new(rest, "postings NODE")),
         "report" => report(Words::new(rest, "report")),
-        word => Err(LineFault::NoSuchWord(word)),
+        word => match read_action(word, rest)? {
+            Some(action) => Ok(Line::Event(EventLine::At(action))),
+            None => Err(LineFault::NoSuchWord(word)),
+        },
     }
 }

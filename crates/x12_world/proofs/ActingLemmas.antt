@@ -1,95 +1,69 @@
 -- What a node did at what it was asked is what the event makes of the network.
-use Rattle.std.specs.Prelude.{◌≡◌, ℕ, suc, List, ◌++◌, Option, Some, None, refl, IsTrue}
+use Rattle.std.specs.Prelude.{◌≡◌, suc, List, ◌++◌, true, Option, Some, None, is_none, option_and_then, refl, IsTrue}
 use mathlib.Core.Path.{sym, ap, subst, ◌∙◌}
 use Rattle.std.specs.Result.{IsErrAnd}
 use Rattle.std.specs.Prelude.{Result, Ok, Err, IfErr}
+use Rattle.std.proofs.lemmas.Bool.{and_parts, and_from}
 use Rattle.x12_profile.specs.X12.{x12}
-use Rattle.x12_station.specs.Fault.{IsRowOrWant}
 use Rattle.x12_station.specs.Seen.{StationView}
-use Rattle.x12_core.specs.declared.station_ask.StationAsk.{StationAsk}
-use Rattle.x12_core.specs.declared.hub_ask.HubAsk.{HubAsk}
+use Rattle.x12_core.specs.Ask.{does_at, node_meant, refusal_of_ask}
 use Rattle.x12_core.specs.declared.fault.CoreFault.{CoreFault}
 use Rattle.x12_core.specs.declared.fault.CoreFault.TheVariants as code
+use Rattle.x12_core.specs.Effect.{Effect}
+use Rattle.x12_core.specs.Node.{Node}
+use Rattle.x12_core.specs.NodeRefusal.{NodeRefusal}
+use Rattle.x12_core.specs.Packet.{Packet}
 use Rattle.x12_world.specs.declared.refused.Refused.{Refused}
 use Rattle.x12_world.specs.RefusedNumber.{refused_by_core}
-use Rattle.x12_core.specs.declared.fault.NodeFault.TheVariants as node
-use Rattle.x12_world.specs.Asks.{IsAsked, IsAskedInVain, IsAskedOfHub, IsAskedOfHubInVain}
+use Rattle.x12_world.specs.Asks.{IsAsked, IsAskedInVain}
 use Rattle.x12_world.specs.declared.hubs.Hubs.{Hubs as CodeHubs}
 use Rattle.x12_world.specs.Nodes.{Nodes, node_at, site_of, with_node}
-use Rattle.x12_world.specs.Effect.{Act, act_of, after_act, after_effect, effect_at}
-use Rattle.x12_core.specs.NodeRefusal.{NodeRefusal}
-use Rattle.x12_world.specs.EventRefusal.{EventRefusal, network_refusal, node_refusal, or_of_node}
-use Rattle.x12_core.specs.HubAsk.{IsHubFault}
-use Rattle.x12_core.specs.Packet.{Packet}
+use Rattle.x12_world.specs.Effect.{Asked, asked_by, after_asked, after_effect, effect_at}
+use Rattle.x12_world.specs.EventRefusal.{EventRefusal, has_nodes, is_there, may_be_asked, network_refusal, node_refusal, or_of_node}
 use Rattle.x12_world.specs.Packet.{named}
 use Rattle.x12_world.specs.Refusing.{IsNetworkRefusal}
 use Rattle.x12_world.specs.Running.{all_answer, hubs_answer, nodes_answer}
 use Rattle.x12_world.specs.Taking.{IsTaken}
-use Rattle.x12_world.specs.Target.{IsForHub, IsForStation}
-use Rattle.x12_core.specs.Node.{Node, IsHub, IsStation}
 use Rattle.x12_world.specs.World.{World, Event}
-use Rattle.std.proofs.lemmas.Bool.{and_parts, and_from}
+use Rattle.x12_world.proofs.KeyLemmas.{false_true}
+use Rattle.x12_world.proofs.RefusalLemmas.{nodes_there, packet_known}
+use Rattle.x12_world.proofs.TakenLemmas.{did_empty}
 
 both_none : (a : Option EventRefusal) (b : Option NodeRefusal) → a ≡ None → b ≡ None → or_of_node a b ≡ None
 both_none a b p q = rw (p, q) refl
 
--- the world once a node did what the event asks for
-pub acted : (w : World) (a : Act x12) (n next : Node) (sends : List Packet) → node_at w.nodes a.node ≡ Some n → a.does n ≡ Some (record { node = next; sends = sends })
-    → after_act x12 w (Some a) ≡ record { nodes = with_node w.nodes a.node next; packets = w.packets ++ named (suc w.events) 1 sends; events = suc w.events }
+-- the world once a node did as it was asked
+pub acted : (w : World) (a : Asked) (n next : Node) (sends : List Packet) → node_at w.nodes a.node ≡ Some n → does_at x12 (site_of w.nodes a.node) a.ask n ≡ Some (record { node = next; sends = sends })
+    → after_asked x12 w (Some a) ≡ record { nodes = with_node w.nodes a.node next; packets = w.packets ++ named (suc w.events) 1 sends; events = suc w.events }
 acted w a n next sends there did =
-    ap (λ o. after_effect x12 w a.node (effect_at x12 a.does o)) there ∙ ap (after_effect x12 w a.node) did
+    ap (λ o. after_effect x12 w a.node (effect_at x12 (site_of w.nodes a.node) a.ask o)) there ∙ ap (after_effect x12 w a.node) did
 
--- the node of this number, which is this, did so
-taken : (w : World) (e : Event) (act : Act x12) (i : ℕ) (n next : Node) (nodes : Nodes) (sends : List Packet) → act_of x12 w e ≡ Some act → act.node ≡ i → node_at w.nodes i ≡ Some n → act.does n ≡ Some (record { node = next; sends = sends }) → nodes ≡ with_node w.nodes i next
-    → network_refusal x12 w e ≡ None → node_refusal x12 w e ≡ None → IsTaken w e nodes sends
-taken w e act i n next nodes sends is at there did new empty own = record {
-  table = both_none (network_refusal x12 w e) (node_refusal x12 w e) empty own;
-  after =
-      ap (after_act x12 w) is
-      ∙ acted w act n next sends (subst (λ k. node_at w.nodes k ≡ Some n) (sym at) there) did
-      ∙ ap (λ k. record { nodes = with_node w.nodes k next; packets = w.packets ++ named (suc w.events) 1 sends; events = suc w.events }) at
-      ∙ ap (λ ns. record { nodes = ns; packets = w.packets ++ named (suc w.events) 1 sends; events = suc w.events }) (sym new);
-}
+-- the node that is asked did so
+pub took : (w : World) (e : Event) (a : Asked) (nodes : Nodes) (sends : List Packet) → asked_by w.packets e ≡ Some a → network_refusal x12 w e ≡ None → IsAsked a.ask (site_of w.nodes a.node) w.nodes nodes sends → IsTaken w e nodes sends
+took w e a nodes sends is empty asked =
+    let did : Effect = record { node = asked.next; sends = sends } in
+    let own : node_refusal x12 w (Some a) ≡ None = ap (option_and_then (refusal_of_ask x12 a.ask)) asked.is ∙ did_empty x12 (site_of w.nodes a.node) a.ask asked.node did asked.effect in
+    record {
+      table = both_none (network_refusal x12 w e) (node_refusal x12 w (asked_by w.packets e)) empty (ap (node_refusal x12 w) is ∙ own);
+      after =
+          ap (after_asked x12 w) is
+          ∙ acted w a asked.node asked.next sends asked.is asked.effect
+          ∙ ap (λ ns. record { nodes = ns; packets = w.packets ++ named (suc w.events) 1 sends; events = suc w.events }) (sym asked.nodes);
+    }
 
-pub station_took : (w : World) (e : Event) (i : ℕ) (a : StationAsk) (nodes : Nodes) (sends : List Packet) → IsForStation w e i a → network_refusal x12 w e ≡ None → IsAsked a (site_of w.nodes i) w.nodes nodes sends → IsTaken w e nodes sends
-station_took w e i a nodes sends f empty asked =
-    taken w e f.act i (IsStation asked.station) asked.next nodes sends f.is f.at_node asked.is (f.does asked.station ∙ asked.effect) asked.nodes empty
-    (f.own asked.station (record { node = asked.next; sends = sends }) asked.is asked.effect)
+-- what the network's table lets through
+pub fits_there : (w : World) (e : Event) (a : Asked) → asked_by w.packets e ≡ Some a → network_refusal x12 w e ≡ None → may_be_asked a.node a.ask (node_at w.nodes a.node) ≡ true
+fits_there w e a is empty = (and_parts (may_be_asked a.node a.ask (node_at w.nodes a.node)) (is_there w (node_meant a.ask)) (subst (λ o. has_nodes w o ≡ true) is (nodes_there x12 w e empty))).0
 
-pub hub_took : (w : World) (e : Event) (i : ℕ) (a : HubAsk) (nodes : Nodes) (sends : List Packet) → IsForHub w e i a → network_refusal x12 w e ≡ None → IsAskedOfHub a i w.nodes nodes sends → IsTaken w e nodes sends
-hub_took w e i a nodes sends f empty asked =
-    taken w e f.act i (IsHub asked.hub) asked.next nodes sends f.is f.at_node asked.is (f.does asked.hub ∙ asked.effect) asked.nodes empty
-    (f.own asked.hub (record { node = asked.next; sends = sends }) asked.is asked.effect)
+-- it refuses, and its kind is no reason
+pub refused : (w : World) (e : Event) (a : Asked) (r : CoreFault) → asked_by w.packets e ≡ Some a → network_refusal x12 w e ≡ None → IsAskedInVain a.ask a.node w.nodes r → IsNetworkRefusal w e (refused_by_core r)
+refused w e a (code.Node fault) is empty asked = (empty, (a, asked.node, is, asked.is, asked.why.1))
+refused w e a code.Memory is empty asked = empty
+refused w e a code.WrongKind is empty asked =
+    absurd (false_true (sym asked.why ∙ sym (ap (may_be_asked a.node a.ask) asked.is) ∙ fits_there w e a is empty))
 
-pub station_refused : (w : World) (e : Event) (i : ℕ) (a : StationAsk) (r : CoreFault) → IsForStation w e i a → network_refusal x12 w e ≡ None → IsAskedInVain a i w.nodes r → IsNetworkRefusal w e (refused_by_core r)
-station_refused w e i a (code.Node (node.OfStation fault)) f empty asked = (
-  empty,
-  (
-    f.act,
-    asked.station,
-    f.is,
-    subst (λ k. node_at w.nodes k ≡ Some (IsStation asked.station)) (sym f.at_node) asked.is,
-    subst (λ row. IsRowOrWant row fault) (sym (f.row asked.station)) asked.why,
-  ),
-)
-station_refused w e i a (code.Node (node.OfHub fault)) f empty asked = absurd asked.why
-station_refused w e i a code.Memory f empty asked = empty
-station_refused w e i a code.WrongKind f empty asked = absurd asked.why
-
-pub hub_refused : (w : World) (e : Event) (i : ℕ) (a : HubAsk) (r : CoreFault) → IsForHub w e i a → network_refusal x12 w e ≡ None → IsAskedOfHubInVain a i w.nodes r → IsNetworkRefusal w e (refused_by_core r)
-hub_refused w e i a (code.Node (node.OfHub fault)) f empty asked = (
-  empty,
-  (
-    f.act,
-    asked.hub,
-    f.is,
-    subst (λ k. node_at w.nodes k ≡ Some (IsHub asked.hub)) (sym f.at_node) asked.is,
-    subst (λ b. IsHubFault asked.hub b fault) (sym f.brought) asked.why,
-  ),
-)
-hub_refused w e i a (code.Node (node.OfStation fault)) f empty asked = absurd asked.why
-hub_refused w e i a code.Memory f empty asked = absurd asked.why
-hub_refused w e i a code.WrongKind f empty asked = absurd asked.why
+pub someone_asked : {A : Type 0} → (w : World) (e : Event) → asked_by w.packets e ≡ None → network_refusal x12 w e ≡ None → A
+someone_asked w e none empty = absurd (false_true (sym (packet_known x12 w e empty) ∙ ap is_none none))
 
 pub hubs_answered : {H R : Type 0} → (h : CodeHubs H) (ss : List (StationView R)) → IsTrue (nodes_answer h ss) → IsTrue (hubs_answer h)
 hubs_answered h ss e = (and_parts (hubs_answer h) (all_answer ss) e).0

@@ -17,8 +17,8 @@ mod MoveLemmas
 mod RefinesLemmas
 mod ToyProfile
 mod ToyRuns
-mod RefusalLemmas
-mod TakenLemmas
+pub mod RefusalLemmas
+pub mod TakenLemmas
 mod LossLemmas
 mod KeyLemmas
 mod HubStateLemmas
@@ -30,8 +30,6 @@ mod ReachLemmas
 pub mod PacketLemmas
 pub mod RunningLemmas
 pub mod FailingLemmas
-pub mod TargetLemmas
-mod DeliveryLemmas
 pub mod ActingLemmas
 mod RanLemmas
 pub mod FoundingLemmas

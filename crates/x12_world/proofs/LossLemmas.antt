@@ -1,5 +1,5 @@
 -- A world that loses packets goes beside one that loses none.
-use Rattle.std.specs.Prelude.{◌≡◌, ℕ, suc, ◌<◌, ◌≤◌, List, [], ◌∷◌, ◌++◌, Bool, true, false, ◌&&◌, ◌==◌, if◌then◌else◌, Option, Some, None, is_none, not, Contains, refl, ◌⊎◌}
+use Rattle.std.specs.Prelude.{◌≡◌, ℕ, suc, ◌<◌, ◌≤◌, List, [], ◌∷◌, ◌++◌, Bool, true, false, ◌&&◌, ◌==◌, if◌then◌else◌, Option, Some, None, is_none, not, option_map, Contains, refl, ◌⊎◌}
 use mathlib.Core.Path.{sym, ap, ap₂, subst, ◌∙◌}
 use mathlib.Core.Logic.{inl, inr}
 use native.Mathlib.Omega.{arith}
@@ -10,12 +10,12 @@ use Rattle.x12_profile.specs.Laws.{Laws}
 use Rattle.x12_core.specs.Packet.{Packet, PacketName}
 use Rattle.x12_world.specs.Packet.{SentPacket, packet_of, named}
 use Rattle.x12_world.specs.Network.{Network}
-use Rattle.x12_world.specs.Nodes.{Nodes, node_at, with_node}
-use Rattle.x12_world.specs.World.{World, Event, SubmitOrders, SubmitPrepared, Deliver, Outside, Tick, Collect, Agree, Enrol, Dismiss, Restart}
+use Rattle.x12_world.specs.Nodes.{Nodes, node_at, site_of, with_node}
+use Rattle.x12_world.specs.World.{World, Event, At, Deliver, Outside}
 use Rattle.x12_core.specs.Effect.{Effect}
-use Rattle.x12_world.specs.Effect.{Act, act_of, after_act, after_effect, delivers, effect_at}
+use Rattle.x12_world.specs.Effect.{Asked, asked_by, asked_to_take, after_asked, after_effect, effect_at}
 use Rattle.x12_world.specs.Run.{happens, run, new_world}
-use Rattle.x12_world.specs.EventRefusal.{EventRefusal, NoEventLeft, NoSuchNode, NoSuchPacket, SpokenFor, is_at_end, has_node, packet_refusal, or_of_node, event_refusal}
+use Rattle.x12_world.specs.EventRefusal.{EventRefusal, NoEventLeft, NoSuchNode, NoSuchPacket, SpokenFor, is_at_end, has_nodes, node_refusal, or_of_node, event_refusal}
 use Rattle.x12_envelopes.specs.Row.{first_of_rows}
 use Rattle.x12_world.specs.Headline.{Headline}
 use Rattle.x12_world.specs.Loss.{Happening, after_loss, happens_so, run_so, Shadows, EveryRunShadows, HeadlineWithLosses}
@@ -103,9 +103,9 @@ module _ (p : Profile) where
     named = names_so full e s.named;
   }
 
-  -- an event is refused alike and acts alike on both
+  -- an event is refused alike and asks alike on both
   abbrev pub Alike : World → World → Event → Type 0
-  Alike full held e = (event_refusal p full e ≡ event_refusal p held e) × (act_of p full e ≡ act_of p held e)
+  Alike full held e = (event_refusal p full e ≡ event_refusal p held e) × (asked_by full.packets e ≡ asked_by held.packets e)
 
   -- or the one that lost packets refuses it
   abbrev pub AlikeOrRefused : World → World → Event → Type 0
@@ -118,14 +118,14 @@ module _ (p : Profile) where
       world_by : Nodes → List SentPacket → ℕ → World
       world_by nodes packets events = record { nodes = nodes; packets = packets; events = events }
 
-  -- why a delivery of this packet is refused
-  abbrev pub delivery_refusal : World → Option Packet → Option EventRefusal
+  -- why a delivery that asks so is refused
+  abbrev pub delivery_refusal : World → Option Asked → Option EventRefusal
   delivery_refusal w o = or_of_node (first_of_rows (
       (is_at_end w, NoEventLeft)
-      ∷ (not (has_node w o), NoSuchNode)
+      ∷ (not (has_nodes w o), NoSuchNode)
       ∷ (is_none o, NoSuchPacket)
       ∷ (false, SpokenFor)
-      ∷ [])) (packet_refusal p w o)
+      ∷ [])) (node_refusal p w o)
 
   refused_delivery : (w : World) → (r : EventRefusal) × (delivery_refusal w None ≡ Some r)
   refused_delivery w = by (is_at_end w)
@@ -135,28 +135,26 @@ module _ (p : Profile) where
       by false = (NoSuchPacket, refl)
 
   pub alike : (full held : World) → Shadows full held → (e : Event) → AlikeOrRefused full held e
-  alike full held s (SubmitOrders i to at texts) = inl (ap (λ w. event_refusal p w (SubmitOrders i to at texts)) (same_but full held s), ap (λ w. act_of p w (SubmitOrders i to at texts)) (same_but full held s))
-  alike full held s (SubmitPrepared i x) = inl (ap (λ w. event_refusal p w (SubmitPrepared i x)) (same_but full held s), ap (λ w. act_of p w (SubmitPrepared i x)) (same_but full held s))
+  alike full held s (At i a) = inl (ap (λ w. event_refusal p w (At i a)) (same_but full held s), refl)
   alike full held s (Deliver name at) = delivery (packet_of held.packets name) refl
     where
-      delivery : (o : Option Packet) → packet_of held.packets name ≡ o → AlikeOrRefused full held (Deliver name at)
-      delivery None is = let no = refused_delivery held in inr (no.0, ap (delivery_refusal held) is ∙ no.1)
-      delivery (Some q) is = inl (
-        ap (delivery_refusal full) (s.packets name q is) ∙ (ap (λ w. delivery_refusal w (Some q)) (same_but full held s) ∙ sym (ap (delivery_refusal held) is)),
-        ap (delivers p full name at) (s.packets name q is) ∙ (ap (λ w. delivers p w name at (Some q)) (same_but full held s) ∙ sym (ap (delivers p held name at) is)),
-      )
-  alike full held s (Outside i b at) = inl (ap (λ w. event_refusal p w (Outside i b at)) (same_but full held s), ap (λ w. act_of p w (Outside i b at)) (same_but full held s))
-  alike full held s (Tick i now) = inl (ap (λ w. event_refusal p w (Tick i now)) (same_but full held s), ap (λ w. act_of p w (Tick i now)) (same_but full held s))
-  alike full held s (Collect k i) = inl (ap (λ w. event_refusal p w (Collect k i)) (same_but full held s), ap (λ w. act_of p w (Collect k i)) (same_but full held s))
-  alike full held s (Agree i a) = inl (ap (λ w. event_refusal p w (Agree i a)) (same_but full held s), ap (λ w. act_of p w (Agree i a)) (same_but full held s))
-  alike full held s (Enrol k party i) = inl (ap (λ w. event_refusal p w (Enrol k party i)) (same_but full held s), ap (λ w. act_of p w (Enrol k party i)) (same_but full held s))
-  alike full held s (Dismiss k party) = inl (ap (λ w. event_refusal p w (Dismiss k party)) (same_but full held s), ap (λ w. act_of p w (Dismiss k party)) (same_but full held s))
-  alike full held s (Restart i) = inl (ap (λ w. event_refusal p w (Restart i)) (same_but full held s), ap (λ w. act_of p w (Restart i)) (same_but full held s))
+      take : Option Packet → Option Asked
+      take o = option_map (asked_to_take name at) o
 
-  act_so : (lost : Bool) (full held : World) (a : Option (Act p)) → Shadows full held → Shadows (after_act p full a) (after_loss lost held (after_act p held a))
-  act_so true full held None s = record { nodes = s.nodes; events = s.events; packets = s.packets; sent = s.sent; named = s.named }
-  act_so false full held None s = s
-  act_so lost full held (Some a) s = subst (λ e. Shadows (after_effect p full a.node (effect_at p a.does (node_at full.nodes a.node))) (after_loss lost held (after_effect p held a.node e))) (ap (λ ns. effect_at p a.does (node_at ns a.node)) s.nodes) (effect_so lost full held a.node (effect_at p a.does (node_at full.nodes a.node)) s)
+      delivery : (o : Option Packet) → packet_of held.packets name ≡ o → AlikeOrRefused full held (Deliver name at)
+      delivery None is = let no = refused_delivery held in inr (no.0, ap (λ o. delivery_refusal held (take o)) is ∙ no.1)
+      delivery (Some q) is = inl (
+        ap (λ o. delivery_refusal full (take o)) (s.packets name q is) ∙ (ap (λ w. delivery_refusal w (take (Some q))) (same_but full held s) ∙ sym (ap (λ o. delivery_refusal held (take o)) is)),
+        ap take (s.packets name q is) ∙ sym (ap take is),
+      )
+  alike full held s (Outside i b at) = inl (ap (λ w. event_refusal p w (Outside i b at)) (same_but full held s), refl)
+
+  asked_so : (lost : Bool) (full held : World) (a : Option Asked) → Shadows full held → Shadows (after_asked p full a) (after_loss lost held (after_asked p held a))
+  asked_so true full held None s = record { nodes = s.nodes; events = s.events; packets = s.packets; sent = s.sent; named = s.named }
+  asked_so false full held None s = s
+  asked_so lost full held (Some a) s =
+      let e : Option Effect = effect_at p (site_of full.nodes a.node) a.ask (node_at full.nodes a.node) in
+      subst (λ d. Shadows (after_effect p full a.node e) (after_loss lost held (after_effect p held a.node d))) (ap (λ ns. effect_at p (site_of ns a.node) a.ask (node_at ns a.node)) s.nodes) (effect_so lost full held a.node e s)
 
   nothing_so : (lost : Bool) (full held : World) → Shadows full held → Shadows full (after_loss lost held held)
   nothing_so true full held s = record { nodes = s.nodes; events = s.events; packets = s.packets; sent = s.sent; named = s.named }
@@ -167,7 +165,7 @@ module _ (p : Profile) where
     where
       by : (r : Option EventRefusal) → event_refusal p held e ≡ r → Shadows (happens p full e) (after_loss lost held (happens p held e))
       by (Some r) is = rw (same.0, is) (nothing_so lost full held s)
-      by None is = rw (same.0, is) (subst (λ a. Shadows (after_act p full a) (after_loss lost held (after_act p held (act_of p held e)))) (sym same.1) (act_so lost full held (act_of p held e) s))
+      by None is = rw (same.0, is) (subst (λ a. Shadows (after_asked p full a) (after_loss lost held (after_asked p held (asked_by held.packets e)))) (sym same.1) (asked_so lost full held (asked_by held.packets e) s))
 
   pub refused_so : (lost : Bool) (full held : World) (e : Event) → Shadows full held → (r : EventRefusal) → event_refusal p held e ≡ Some r → Shadows full (after_loss lost held (happens p held e))
   refused_so lost full held e s r is = rw is (nothing_so lost full held s)

@@ -6,7 +6,7 @@ use Rattle.std.proofs.lemmas.List.{append-nil}
 use Rattle.std.proofs.lemmas.Bool.Decides.{eqb_tells}
 use Rattle.x12_envelopes.specs.declared.party.Party.{Party}
 use Rattle.x12_envelopes.specs.declared.moment.Moment.{Moment}
-use Rattle.x12_core.specs.Ask as ask
+use Rattle.x12_core.specs.Ask.{Ask, Do, Comes, Outside, Fate, bytes_of_ask, does_at}
 use Rattle.x12_profile.specs.declared.edition.Edition.{Edition}
 use Rattle.x12_profile.specs.Interchange.{Bytes, PlaceOfSet, PlacedEvidence, Book, book_for, is_within}
 use Rattle.x12_profile.specs.Profile.{Profile}
@@ -14,16 +14,15 @@ use Rattle.x12_profile.specs.Laws.{Laws}
 use Rattle.x12_station.specs.History.{Came, KeptArrival, filed, submissions, first_told, told, told_in, fate_in, posted_under}
 use Rattle.x12_station.specs.Station.{Station, edition_next}
 use Rattle.x12_hub.specs.Hub.{Hub, HubStep, deposit}
-use Rattle.x12_core.specs.Packet.{Packet, PacketName, Load, Deposit, Refusal, Taken, carried}
-use Rattle.x12_world.specs.Packet.{packet_of}
+use Rattle.x12_core.specs.Packet.{Packet, Load, Deposit, Refusal, Taken, carried}
 use Rattle.x12_core.specs.Packet as packet
 use Rattle.x12_core.specs.declared.packet.Site.{Site}
 use Rattle.x12_core.specs.Node.{Node, IsHub, IsStation}
 use Rattle.x12_world.specs.Network.{Network}
 use Rattle.x12_world.specs.Nodes.{node_at, with_node, site_of}
-use Rattle.x12_world.specs.World.{World, StationAt, Event, SubmitOrders, SubmitPrepared, Deliver, Outside, Tick, Collect, Agree, Enrol, Dismiss, Restart, is_named}
+use Rattle.x12_world.specs.World.{World, StationAt, Event, is_named}
 use Rattle.x12_world.specs.Traffic.{IsNode}
-use Rattle.x12_world.specs.Outsider.{brings, carried_by, OutsidersMoveNothing}
+use Rattle.x12_world.specs.Outsider.{brings, bytes_asked, OutsidersMoveNothing}
 use Rattle.x12_judge.specs.Agreement.{is_same_party}
 use Rattle.x12_profile.proofs.PartyLemmas.{party_tells}
 use Rattle.x12_station.proofs.ListLemmas.{if_cases}
@@ -35,7 +34,7 @@ use Rattle.x12_world.proofs.LearntLemmas.{hub_believed}
 use Rattle.x12_world.specs.Run.{happens}
 use Rattle.x12_world.specs.EventRefusal.{EventRefusal, event_refusal}
 use Rattle.x12_core.specs.Effect.{Effect, from_station, from_hub, comes, comes_to_station, comes_to_hub, comes_outside, reports_taken}
-use Rattle.x12_world.specs.Effect.{act_of, after_effect, asked_at, effect_at, after_act, delivers}
+use Rattle.x12_world.specs.Effect.{Asked, asked_by, after_effect, effect_at, after_asked}
 use Rattle.x12_station.specs.StationStep.{StationStep, arrive, arrive_at, arrive_new, arrive_other, filed_now}
 use Rattle.x12_acks.specs.Submission.{TransactionSetKey}
 
@@ -104,9 +103,9 @@ module _ (p : Profile) where
   hub_load_adds k from m h (Refusal c) b is e x = hub_adds k h b [] None (deposit p h m c) e x
   hub_load_adds k from m h (Taken item) b is e x = absurd cc
 
-  comes_adds : (i : Site) (q : Packet) (m : Moment) (b : Bytes) → carried q.load ≡ Some b → (n : Node) (e : Effect) → comes p i q.from q.load m n ≡ Some e → AddsTo n e.node b
-  comes_adds i q m b is (IsStation s) e h = load_adds i q.from m s q.load b is e h
-  comes_adds i q m b is (IsHub k) e h = hub_load_adds i.node q.from m k q.load b is e h
+  comes_adds : (i : Site) (from : ℕ) (l : Load) (m : Moment) (b : Bytes) → carried l ≡ Some b → (n : Node) (e : Effect) → comes p i from l m n ≡ Some e → AddsTo n e.node b
+  comes_adds i from l m b is (IsStation s) e h = load_adds i from m s l b is e h
+  comes_adds i from l m b is (IsHub k) e h = hub_load_adds i.node from m k l b is e h
 
   outside_adds : (i : Site) (b : Bytes) (m : Moment) (n : Node) (e : Effect) → comes_outside p i b m n ≡ Some e → AddsTo n e.node b
   outside_adds i b m (IsStation s) e h = station_adds p m s b i [] (arrive p s m b) refl e h
@@ -138,36 +137,27 @@ module _ (p : Profile) where
           let s_is : adds.0 ≡ s' = cc in
           subst (λ z. Adds z s' b) r_is (subst (λ z. Adds r z b) s_is adds.2)
 
-  effect_all : (w : World) (i : ℕ) (does : Node → Option Effect) (b : Bytes) → ((n : Node) (e : Effect) → does n ≡ Some e → AddsTo n e.node b) → (node : Option Node) → node_at w.nodes i ≡ node → (e : Option Effect) → effect_at p does node ≡ e → AllAdd w (after_effect p w i e) b
-  effect_all w i does b each None at None is = same_all w b
-  effect_all w i does b each None at (Some e) is = absurd cc
-  effect_all w i does b each (Some n) at None is = same_all w b
-  effect_all w i does b each (Some n) at (Some e) is = set_all w i n e b at (each n e is)
+  effect_all : (w : World) (i : ℕ) (a : Ask) (b : Bytes) → ((n : Node) (e : Effect) → does_at p (site_of w.nodes i) a n ≡ Some e → AddsTo n e.node b) → (node : Option Node) → node_at w.nodes i ≡ node → (e : Option Effect) → effect_at p (site_of w.nodes i) a node ≡ e → AllAdd w (after_effect p w i e) b
+  effect_all w i a b each None at None is = same_all w b
+  effect_all w i a b each None at (Some e) is = absurd cc
+  effect_all w i a b each (Some n) at None is = same_all w b
+  effect_all w i a b each (Some n) at (Some e) is = set_all w i n e b at (each n e is)
 
-  outside_all : (w : World) (i : ℕ) (c : Bytes) (m : Moment) → AllAdd w (after_act p w (asked_at p w i (ask.Outside c m))) c
-  outside_all w i c m = effect_all w i (comes_outside p (site_of w.nodes i) c m) c (outside_adds (site_of w.nodes i) c m) (node_at w.nodes i) refl (effect_at p (comes_outside p (site_of w.nodes i) c m) (node_at w.nodes i)) refl
+  ask_adds : (i : Site) (a : Ask) (b : Bytes) → bytes_of_ask a ≡ Some b → (n : Node) (e : Effect) → does_at p i a n ≡ Some e → AddsTo n e.node b
+  ask_adds i (Do x) b is n e h = absurd cc
+  ask_adds i (Comes name from l m) b is n e h = comes_adds i from l m b is n e h
+  ask_adds i (Outside c m) b is n e h = subst (AddsTo n e.node) (some_inj is) (outside_adds i c m n e h)
+  ask_adds i (Fate k) b is n e h = absurd cc
 
-  deliver_all : (w : World) (name : PacketName) (m : Moment) (o : Option Packet) (b : Bytes) → carried_by o ≡ Some b → AllAdd w (after_act p w (delivers p w name m o)) b
-  deliver_all w name m None b is = same_all w b
-  deliver_all w name m (Some q) b is = effect_all w q.to (comes p (site_of w.nodes q.to) q.from q.load m) b (comes_adds (site_of w.nodes q.to) q m b is) (node_at w.nodes q.to) refl (effect_at p (comes p (site_of w.nodes q.to) q.from q.load m) (node_at w.nodes q.to)) refl
-
-  event_all : (w : World) (e : Event) (b : Bytes) → brings w e ≡ Some b → AllAdd w (after_act p w (act_of p w e)) b
-  event_all w (Outside i c m) b is = subst (AllAdd w (after_act p w (act_of p w (Outside i c m)))) (some_inj is) (outside_all w i c m)
-  event_all w (Deliver name m) b is = deliver_all w name m (packet_of w.packets name) b is
-  event_all w (SubmitOrders i to m texts) b is = absurd cc
-  event_all w (SubmitPrepared i x) b is = absurd cc
-  event_all w (Tick i now) b is = absurd cc
-  event_all w (Collect k i) b is = absurd cc
-  event_all w (Agree i a) b is = absurd cc
-  event_all w (Enrol k party i) b is = absurd cc
-  event_all w (Dismiss k party) b is = absurd cc
-  event_all w (Restart i) b is = absurd cc
+  asked_all : (w : World) (o : Option Asked) (b : Bytes) → bytes_asked o ≡ Some b → AllAdd w (after_asked p w o) b
+  asked_all w None b is = absurd cc
+  asked_all w (Some a) b is = effect_all w a.node a.ask b (ask_adds (site_of w.nodes a.node) a.ask b is) (node_at w.nodes a.node) refl (effect_at p (site_of w.nodes a.node) a.ask (node_at w.nodes a.node)) refl
 
   happens_all : (w : World) (e : Event) (b : Bytes) → brings w e ≡ Some b → AllAdd w (happens p w e) b
   happens_all w e b is = by (event_refusal p w e)
     where
-      by : (r : Option EventRefusal) → AllAdd w (if is_some r then w else after_act p w (act_of p w e)) b
-      by None = event_all w e b is
+      by : (r : Option EventRefusal) → AllAdd w (if is_some r then w else after_asked p w (asked_by w.packets e)) b
+      by None = asked_all w (asked_by w.packets e) b is
       by (Some r) = same_all w b
 
 pub empty_if : {X : Type 0} (xs : List X) → ((x : X) → ¬ (Contains xs x)) → xs ≡ []

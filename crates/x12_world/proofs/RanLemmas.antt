@@ -6,7 +6,7 @@ use Rattle.std.proofs.Math.Seq.{drop-append_seam}
 use Rattle.x12_profile.specs.X12.{x12}
 use Rattle.x12_world.specs.declared.outcome.Outcome.{Outcome as CodeOutcome}
 use Rattle.x12_world.specs.declared.refused.Refused.{Refused}
-use Rattle.x12_world.specs.Effect.{act_of, after_act}
+use Rattle.x12_world.specs.Effect.{asked_by, after_asked}
 use Rattle.x12_world.specs.EventRefusal.{EventRefusal}
 use Rattle.x12_world.specs.Loss.{Happening, after_loss, happens_so, run_so}
 use Rattle.x12_world.specs.Outcome.{EventOutcome, told_packet, outcome_of}
@@ -33,7 +33,7 @@ module _ (w : World) (e : Event) (nodes : Nodes) (sends : List Packet) (t : IsTa
   sent = named (suc w.events) 1 sends
 
   is_full : happens x12 w e ≡ world_by nodes (w.packets ++ named (suc w.events) 1 sends) (suc w.events)
-  is_full = ap (λ (r : Option EventRefusal). if is_some r then w else after_act x12 w (act_of x12 w e)) t.table ∙ t.after
+  is_full = ap (λ (r : Option EventRefusal). if is_some r then w else after_asked x12 w (asked_by w.packets e)) t.table ∙ t.after
 
   world_so : (lost : Bool) → world_by nodes (if lost then w.packets else w.packets ++ named (suc w.events) 1 sends) (suc w.events) ≡ happens_so x12 w (record { event = e; lost = lost })
   world_so true = ap (after_loss true w) (sym is_full)

@@ -1,5 +1,5 @@
 -- What holds of a world that lost no packet holds of the one beside it that lost some.
-use Rattle.std.specs.Prelude.{◌≡◌, ℕ, List, [], ◌∷◌, ◌++◌, false, Option, Some, None, IsSome, length, ◌≤◌, refl}
+use Rattle.std.specs.Prelude.{◌≡◌, ℕ, List, [], ◌∷◌, ◌++◌, false, Option, Some, None, IsSome, length, ◌≤◌, option_map, refl}
 use mathlib.Core.Path.{sym, ap, subst, ◌∙◌}
 use mathlib.Core.Logic.{inl, inr}
 use Rattle.x12_profile.specs.Interchange.{Bytes}
@@ -10,7 +10,7 @@ use Rattle.x12_core.specs.Packet.{Packet}
 use Rattle.x12_world.specs.Packet.{packet_of}
 use Rattle.x12_core.specs.Node.{IsStation}
 use Rattle.x12_world.specs.Nodes.{Nodes}
-use Rattle.x12_world.specs.World.{World, StationAt, is_named, Event, SubmitOrders, SubmitPrepared, Deliver, Outside, Tick, Collect, Agree, Enrol, Dismiss, Restart}
+use Rattle.x12_world.specs.World.{World, StationAt, is_named, Event, At, Deliver, Outside}
 use Rattle.x12_world.specs.EventRefusal.{EventRefusal, event_refusal}
 use Rattle.x12_world.specs.Network.{Network, IsNetwork}
 use Rattle.x12_world.specs.Run.{happens, run, new_world}
@@ -18,7 +18,8 @@ use Rattle.x12_world.specs.Headline.{Headline}
 use Rattle.x12_world.specs.Traffic.{TrafficFacts, WasSent}
 use Rattle.x12_world.specs.Conflict.{NoConflict}
 use Rattle.x12_world.specs.Number.{NumbersAreUsed}
-use Rattle.x12_world.specs.Outsider.{MovesNothing, OutsidersMoveNothing, brings, carried_by}
+use Rattle.x12_world.specs.Outsider.{MovesNothing, OutsidersMoveNothing, brings, bytes_asked}
+use Rattle.x12_world.specs.Effect.{asked_to_take}
 use Rattle.x12_world.specs.Audit.{KeysTell, NoAuditIsBad}
 use Rattle.x12_world.specs.Exchange.{Exchange, Refines, IsStepOrNone, empty_exchange}
 use Rattle.x12_world.specs.Loss.{Happening, Shadows, happens_so, run_so}
@@ -81,20 +82,13 @@ module _ (p : Profile) (full held : World) (s : Shadows full held) where
 
   -- what an event brings to it, it brings to the other too
   brings_so : (e : Event) (b : Bytes) → brings held e ≡ Some b → brings full e ≡ Some b
+  brings_so (At i a) b is = is
   brings_so (Outside i c at) b is = is
   brings_so (Deliver name at) b is = by (packet_of held.packets name) refl is
     where
-      by : (o : Option Packet) → packet_of held.packets name ≡ o → carried_by o ≡ Some b → carried_by (packet_of full.packets name) ≡ Some b
+      by : (o : Option Packet) → packet_of held.packets name ≡ o → bytes_asked (option_map (asked_to_take name at) o) ≡ Some b → bytes_asked (option_map (asked_to_take name at) (packet_of full.packets name)) ≡ Some b
       by None found is = absurd cc
       by (Some q) found is = rw (s.packets name q found) is
-  brings_so (SubmitOrders i to at texts) b is = absurd cc
-  brings_so (SubmitPrepared i x) b is = absurd cc
-  brings_so (Tick i now) b is = absurd cc
-  brings_so (Collect k i) b is = absurd cc
-  brings_so (Agree i a) b is = absurd cc
-  brings_so (Enrol k party i) b is = absurd cc
-  brings_so (Dismiss k party) b is = absurd cc
-  brings_so (Restart i) b is = absurd cc
 
 -- these speak of nodes alone
 moves_by : (p : Profile) (before before' after after' : World) → before.nodes ≡ before'.nodes → after.nodes ≡ after'.nodes → MovesNothing p before after → MovesNothing p before' after'

@@ -7,9 +7,10 @@ use Rattle.x12_profile.specs.Interchange.{Bytes}
 use Rattle.x12_profile.specs.Profile.{Profile}
 use Rattle.x12_station.specs.Station.{Station}
 use Rattle.x12_station.specs.StationRefusal.{prepared_refusal}
+use Rattle.x12_world.specs.Effect.{asked_by}
 use Rattle.x12_world.specs.World.{World, Event}
 use Rattle.x12_core.specs.NodeRefusal.{NodeRefusal}
-use Rattle.x12_world.specs.EventRefusal.{EventRefusal, is_at_end, has_nodes, is_unknown, is_spoken_for, node_refusal, event_refusal, or_of_node}
+use Rattle.x12_world.specs.EventRefusal.{EventRefusal, is_at_end, has_nodes, is_spoken_for, network_refusal, node_refusal, event_refusal, or_of_node}
 use Rattle.std.proofs.lemmas.Bool.{not-false}
 
 -- no row holds: the first doesn't, and none of the rest does
@@ -50,22 +51,34 @@ neither (Some r) b e = absurd cc
 -- an event that the network doesn't refuse
 pub record Admits (p : Profile) (w : World) (e : Event) : Type 0 where
   pub room : is_at_end w ≡ false
-  pub nodes : has_nodes w e ≡ true
-  pub known : is_unknown w e ≡ false
+  pub nodes : has_nodes w (asked_by w.packets e) ≡ true
+  pub known : is_none (asked_by w.packets e) ≡ false
   pub unspoken : is_spoken_for p w e ≡ false
-  pub own : node_refusal p w e ≡ None
+  pub own : node_refusal p w (asked_by w.packets e) ≡ None
 
 pub admitted : (p : Profile) (w : World) (e : Event) → event_refusal p w e ≡ None → Admits p w e
 admitted p w e empty =
-    let both = neither _ (node_refusal p w e) empty in
+    let both = neither _ (node_refusal p w (asked_by w.packets e)) empty in
     let room = row_apart (is_at_end w) _ _ both.0 in
-    let nodes = row_apart (not (has_nodes w e)) _ _ room.1 in
-    let known = row_apart (is_unknown w e) _ _ nodes.1 in
+    let nodes = row_apart (not (has_nodes w (asked_by w.packets e))) _ _ room.1 in
+    let known = row_apart (is_none (asked_by w.packets e)) _ _ nodes.1 in
     let unspoken = row_apart (is_spoken_for p w e) _ _ known.1 in
     record {
       room = room.0;
-      nodes = not-false (has_nodes w e) nodes.0;
+      nodes = not-false (has_nodes w (asked_by w.packets e)) nodes.0;
       known = known.0;
       unspoken = unspoken.0;
       own = both.1;
     }
+
+-- what the network's own table tells where it is empty
+pub nodes_there : (p : Profile) (w : World) (e : Event) → network_refusal p w e ≡ None → has_nodes w (asked_by w.packets e) ≡ true
+nodes_there p w e empty =
+    let room = row_apart (is_at_end w) _ _ empty in
+    not-false (has_nodes w (asked_by w.packets e)) (row_apart (not (has_nodes w (asked_by w.packets e))) _ _ room.1).0
+
+pub packet_known : (p : Profile) (w : World) (e : Event) → network_refusal p w e ≡ None → is_none (asked_by w.packets e) ≡ false
+packet_known p w e empty =
+    let room = row_apart (is_at_end w) _ _ empty in
+    let nodes = row_apart (not (has_nodes w (asked_by w.packets e))) _ _ room.1 in
+    (row_apart (is_none (asked_by w.packets e)) _ _ nodes.1).0

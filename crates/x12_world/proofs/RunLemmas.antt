@@ -1,5 +1,5 @@
 -- Every event keeps a world sound, so every run does.
-use Rattle.std.specs.Prelude.{◌≡◌, ℕ, List, [], ◌∷◌, ◌++◌, Bool, true, false, if◌then◌else◌, ◌==◌, ◌&&◌, Option, Some, None, Contains, refl, map, is_some, is_none, IsTrue, All, ◌⊎◌}
+use Rattle.std.specs.Prelude.{◌≡◌, ℕ, List, [], ◌∷◌, ◌++◌, Bool, true, false, if◌then◌else◌, ◌==◌, ◌&&◌, Option, Some, None, Contains, refl, map, is_some, is_none, option_map, IsTrue, All, ◌⊎◌}
 use mathlib.Core.Path.{sym, ap, subst, ◌∙◌}
 use mathlib.Core.Logic.{inl, inr}
 use Rattle.x12_envelopes.specs.declared.party.Party.{Party}
@@ -17,9 +17,9 @@ use Rattle.x12_core.specs.declared.packet.Site.{Site}
 use Rattle.x12_core.specs.Node.{Node, IsHub, IsStation, is_hub}
 use Rattle.x12_world.specs.Network.{Network, IsNetwork, IsHubNumber, believed_at, parties_in}
 use Rattle.x12_world.specs.Nodes.{node_at, home_of, site_of}
-use Rattle.x12_world.specs.World.{World, StationAt, HubAt, Event, SubmitOrders, SubmitPrepared, Deliver, Outside, Tick, Collect, Agree, Enrol, Dismiss, Restart, is_named}
+use Rattle.x12_world.specs.World.{World, StationAt, HubAt, Event, At, Deliver, Outside, is_named}
 use Rattle.x12_station.specs.StationRefusal.{orders_refusal, written_orders}
-use Rattle.x12_world.specs.EventRefusal.{EventRefusal, event_refusal}
+use Rattle.x12_world.specs.EventRefusal.{EventRefusal, event_refusal, is_spoken_for}
 use Rattle.x12_world.proofs.RefusalLemmas.{admitted}
 use Rattle.x12_station.proofs.ListLemmas.{if_cases}
 use Rattle.x12_numbers.proofs.Shelf.{none_in_nil, contains_cons, contains_head, contains_tail, if_some_parts, some_inj}
@@ -31,7 +31,9 @@ use Rattle.x12_world.proofs.StationLemmas.{OnlyTaken, Brought, quiet, submit_doe
 use Rattle.x12_world.proofs.HubLemmas.{deposit_does, collect_does, still, taken_same}
 use Rattle.x12_world.specs.Run.{happens, run, new_world}
 use Rattle.x12_core.specs.Effect.{Effect, from_station, from_hub, refusals, comes, comes_to_station, comes_to_hub, comes_outside, at_station, at_hub, quietly, restart, deposits, reports_taken}
-use Rattle.x12_world.specs.Effect.{Act, act_of, delivers, after_act, after_effect, effect_at}
+use Rattle.x12_core.specs.Action.{Action, Orders, Prepared, Tick, Collect, Agree, Enrol, Dismiss, Restart, acts}
+use Rattle.x12_core.specs.Ask.{Ask, does_at}
+use Rattle.x12_world.specs.Effect.{Asked, asked_by, asked_to_take, after_asked, after_effect, effect_at}
 use Rattle.x12_station.specs.StationStep.{StationStep, submit, submit_orders, arrive, tick, may_submit, entered, restarted}
 use Rattle.x12_world.proofs.HubLemmas as hubs
 
@@ -189,71 +191,75 @@ module _ (p : Profile) (laws : Laws p) (net : Network) (plain : All (λ party. I
   restart_does i (IsStation s) at eff e = silent_step i s (restarted p s) at refl refl refl refl eff e
   restart_does i (IsHub h) at eff e = still_step i h h at (same_hub h) eff e
 
-  -- what every event does
-  DoesAct : Option (Act p) → Type 0
-  DoesAct None = Unit {0}
-  DoesAct (Some a) = (n : Node) → NodeAt a.node n → DoesMaybe a.node n (a.does n)
+  -- what a node does of itself
+  acts_does : (i : ℕ) (a : Action) (n : Node) → NodeAt i n → DoesMaybe i n (acts p (site i) a n)
+  acts_does i (Orders to m texts) = of_station i _ (λ s at. orders_step i s to m texts at)
+  acts_does i (Prepared x) = of_station i _ (λ s at. submit_step i s x at)
+  acts_does i (Tick now) = of_station i _ (λ s at. from_station_does i s [] (Some (tick p s now)) (λ x some. subst (λ z. Does p t i (IsStation s) (IsStation z.station) ([] ++ deposits (site i) z.sends)) (some_inj some) (tick_does p laws net plain w was i s at now)))
+  acts_does k (Collect i) = of_hub k _ (λ h at eff e. subst (λ z. Does p t k (IsHub h) z.node z.sends) (some_inj e) (collect_does p laws net plain w was k h at i))
+  acts_does i (Agree a) = of_station i _ (λ s at. silent_step i s _ at refl refl refl refl)
+  acts_does k (Enrol party i) = of_hub k _ (λ h at. still_step k h _ at (record { me = refl; decisions = refl; icn = refl }))
+  acts_does k (Dismiss party) = of_hub k _ (λ h at. still_step k h _ at (record { me = refl; decisions = refl; icn = refl }))
+  acts_does i Restart = restart_does i
 
-  delivers_does : (name : PacketName) (m : Moment) (o : Option Packet) → ((q : Packet) → o ≡ Some q → Contains t.packets q) → DoesAct (delivers p w name m o)
-  unfolding DoesAct
+  -- what is asked is done
+  DoesAsk : Option Asked → Type 0
+  DoesAsk None = Unit {0}
+  DoesAsk (Some a) = (n : Node) → NodeAt a.node n → DoesMaybe a.node n (does_at p (site a.node) a.ask n)
+
+  delivers_does : (name : PacketName) (m : Moment) (o : Option Packet) → ((q : Packet) → o ≡ Some q → Contains t.packets q) → DoesAsk (option_map (asked_to_take name m) o)
+  unfolding DoesAsk
   delivers_does name m None sent = tt
   delivers_does name m (Some q) sent = comes_does q (sent q refl) m
 
-  act_does : (e : Event) → event_refusal p w e ≡ None → DoesAct (act_of p w e)
-  unfolding DoesAct
-  act_does (SubmitOrders i to m texts) empty = of_station i _ (λ s at. orders_step i s to m texts at)
-  act_does (SubmitPrepared i x) empty = of_station i _ (λ s at. submit_step i s x at)
-  act_does (Deliver name m) empty = delivers_does name m (packet_of w.packets name) (λ q found. packet_found w.packets name q found)
-  act_does (Outside i b m) empty = outside_does i b m (admitted p w (Outside i b m) empty).unspoken
-  act_does (Tick i now) empty = of_station i _ (λ s at. from_station_does i s [] (Some (tick p s now)) (λ x some. subst (λ z. Does p t i (IsStation s) (IsStation z.station) ([] ++ deposits (site i) z.sends)) (some_inj some) (tick_does p laws net plain w was i s at now)))
-  act_does (Collect k i) empty = of_hub k _ (λ h at eff e. subst (λ z. Does p t k (IsHub h) z.node z.sends) (some_inj e) (collect_does p laws net plain w was k h at i))
-  act_does (Agree i a) empty = of_station i _ (λ s at. silent_step i s _ at refl refl refl refl)
-  act_does (Enrol k party i) empty = of_hub k _ (λ h at. still_step k h _ at (record { me = refl; decisions = refl; icn = refl }))
-  act_does (Dismiss k party) empty = of_hub k _ (λ h at. still_step k h _ at (record { me = refl; decisions = refl; icn = refl }))
-  act_does (Restart i) empty = restart_does i
+  asked_does : (e : Event) → is_spoken_for p w e ≡ false → DoesAsk (asked_by w.packets e)
+  unfolding DoesAsk
+  asked_does (At i a) unspoken = acts_does i a
+  asked_does (Deliver name m) unspoken = delivers_does name m (packet_of w.packets name) (λ q found. packet_found w.packets name q found)
+  asked_does (Outside i b m) unspoken = outside_does i b m unspoken
 
   -- a sound world, and a later one
   abbrev pub Onward : World → Type 0
   Onward w' = Sound p net w' × IsLater w w'
 
-  effect_onward : (i : ℕ) (does : Node → Option Effect) (node : Option Node) → node_at w.nodes i ≡ node → ((n : Node) → NodeAt i n → DoesMaybe i n (does n)) → (e : Option Effect) → effect_at p does node ≡ e → Onward (after_effect p w i e)
-  effect_onward i does None at each None is = (was, later_itself w)
-  effect_onward i does None at each (Some e) is = absurd cc
-  effect_onward i does (Some n) at each None is = (was, later_itself w)
-  effect_onward i does (Some n) at each (Some e) is = (sound_by p net w i n at e (each n at e is) was, later_by p net w i n at e (each n at e is))
+  effect_onward : (i : ℕ) (a : Ask) (node : Option Node) → node_at w.nodes i ≡ node → ((n : Node) → NodeAt i n → DoesMaybe i n (does_at p (site i) a n)) → (e : Option Effect) → effect_at p (site i) a node ≡ e → Onward (after_effect p w i e)
+  effect_onward i a None at each None is = (was, later_itself w)
+  effect_onward i a None at each (Some e) is = absurd cc
+  effect_onward i a (Some n) at each None is = (was, later_itself w)
+  effect_onward i a (Some n) at each (Some e) is = (sound_by p net w i n at e (each n at e is) was, later_by p net w i n at e (each n at e is))
 
-  act_onward : (a : Option (Act p)) → DoesAct a → Onward (after_act p w a)
-  unfolding DoesAct
-  act_onward None does = (was, later_itself w)
-  act_onward (Some a) does = effect_onward a.node a.does (node_at w.nodes a.node) refl does (effect_at p a.does (node_at w.nodes a.node)) refl
+  asked_onward : (a : Option Asked) → DoesAsk a → Onward (after_asked p w a)
+  unfolding DoesAsk
+  asked_onward None does = (was, later_itself w)
+  asked_onward (Some a) does = effect_onward a.node a.ask (node_at w.nodes a.node) refl does (effect_at p (site a.node) a.ask (node_at w.nodes a.node)) refl
 
   -- an event does nothing, or grows the trace
   abbrev pub GrowsTo : World → Type 0
   GrowsTo w' = (w' ≡ w) ⊎ Grows p (trace_of w) (trace_of w')
 
-  effect_grows : (i : ℕ) (does : Node → Option Effect) (node : Option Node) → node_at w.nodes i ≡ node → ((n : Node) → NodeAt i n → DoesMaybe i n (does n)) → (e : Option Effect) → effect_at p does node ≡ e → GrowsTo (after_effect p w i e)
-  effect_grows i does None at each None is = inl refl
-  effect_grows i does None at each (Some e) is = absurd cc
-  effect_grows i does (Some n) at each None is = inl refl
-  effect_grows i does (Some n) at each (Some e) is = inr (grows_by p net w i n at e (each n at e is))
+  effect_grows : (i : ℕ) (a : Ask) (node : Option Node) → node_at w.nodes i ≡ node → ((n : Node) → NodeAt i n → DoesMaybe i n (does_at p (site i) a n)) → (e : Option Effect) → effect_at p (site i) a node ≡ e → GrowsTo (after_effect p w i e)
+  effect_grows i a None at each None is = inl refl
+  effect_grows i a None at each (Some e) is = absurd cc
+  effect_grows i a (Some n) at each None is = inl refl
+  effect_grows i a (Some n) at each (Some e) is = inr (grows_by p net w i n at e (each n at e is))
 
-  act_grows : (a : Option (Act p)) → DoesAct a → GrowsTo (after_act p w a)
-  unfolding DoesAct
-  act_grows None does = inl refl
-  act_grows (Some a) does = effect_grows a.node a.does (node_at w.nodes a.node) refl does (effect_at p a.does (node_at w.nodes a.node)) refl
+  asked_grows : (a : Option Asked) → DoesAsk a → GrowsTo (after_asked p w a)
+  unfolding DoesAsk
+  asked_grows None does = inl refl
+  asked_grows (Some a) does = effect_grows a.node a.ask (node_at w.nodes a.node) refl does (effect_at p (site a.node) a.ask (node_at w.nodes a.node)) refl
 
   pub happens_grows : (e : Event) → GrowsTo (happens p w e)
   happens_grows e = by (event_refusal p w e) refl
     where
-      by : (r : Option EventRefusal) → event_refusal p w e ≡ r → GrowsTo (if is_some r then w else after_act p w (act_of p w e))
-      by None empty = act_grows (act_of p w e) (act_does e empty)
+      by : (r : Option EventRefusal) → event_refusal p w e ≡ r → GrowsTo (if is_some r then w else after_asked p w (asked_by w.packets e))
+      by None empty = asked_grows (asked_by w.packets e) (asked_does e (admitted p w e empty).unspoken)
       by (Some r) is = inl refl
 
   pub happens_onward : (e : Event) → Onward (happens p w e)
   happens_onward e = by (event_refusal p w e) refl
     where
-      by : (r : Option EventRefusal) → event_refusal p w e ≡ r → Onward (if is_some r then w else after_act p w (act_of p w e))
-      by None empty = act_onward (act_of p w e) (act_does e empty)
+      by : (r : Option EventRefusal) → event_refusal p w e ≡ r → Onward (if is_some r then w else after_asked p w (asked_by w.packets e))
+      by None empty = asked_onward (asked_by w.packets e) (asked_does e (admitted p w e empty).unspoken)
       by (Some r) is = (was, later_itself w)
 
 -- A new world is sound.

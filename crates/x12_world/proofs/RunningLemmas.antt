@@ -1,6 +1,6 @@
 -- The nodes of a running network: the hubs have their numbers, and a station that changes changes its place alone.
 use Rattle.std.specs.Prelude.{◌≡◌, ℕ, zero, suc, ◌-◌, ◌<◌, ◌≤◌, List, [], ◌∷◌, Bool, true, false, ◌&&◌, ◌||◌, ◌≢◌, Option, Some, None, IsSome, IsTrue, Result, Ok, Err, IfErr, OnErr, refl, map, length, set, slice_get, is_some, option_map, option_to_list, get_or, ◌⊎◌, nat_le, ◌==◌}
-use mathlib.Core.Path.{sym, ap, subst, ◌∙◌}
+use mathlib.Core.Path.{sym, ap, ◌∙◌}
 use mathlib.Core.Logic.{inl, inr}
 use native.Mathlib.Omega.{arith}
 use Rattle.std.proofs.lemmas.Bool.Decides.{eqb_tells, leb_tells}
@@ -23,17 +23,16 @@ use Rattle.x12_hub.specs.Hub.{Hub}
 use Rattle.x12_station.specs.Seen.{StationView}
 use Rattle.x12_station.specs.Station.{Station}
 use Rattle.std.proofs.lemmas.Bool.{and_parts, and_from}
-use Rattle.x12_core.specs.StationAsk.{IsAskRefusal, ask_effect, ask_row}
+use Rattle.x12_core.specs.Ask.{Ask, does_at, suits}
+use Rattle.x12_core.specs.Core.{IsCoreRefusal}
 use Rattle.x12_world.specs.Asks.{IsAsked, IsAskedInVain}
-use Rattle.x12_core.specs.declared.station_ask.StationAsk.{StationAsk}
 use Rattle.x12_core.specs.declared.fault.CoreFault.{CoreFault}
 use Rattle.x12_core.specs.Packet.{Packet}
 use Rattle.x12_numbers.proofs.Shelf.{any_append, false_is_never_true}
 use Rattle.x12_world.specs.Nodes.{all_nodes, node_at, with_node, is_hub_number}
 use Rattle.x12_world.specs.declared.hubs.Hubs.{Hubs as CodeHubs}
 use Rattle.x12_world.specs.Running.{HasNumbers, Hubs, hubs_in, all_answer, beside, nodes_of, station_nodes}
-use Rattle.x12_world.specs.EventRefusal.{is_spoken_for}
-use Rattle.x12_world.specs.Target.{KindsByNumber}
+use Rattle.x12_world.specs.EventRefusal.{is_spoken_for, may_be_asked}
 use Rattle.x12_core.specs.declared.packet.Site.{Site}
 use Rattle.x12_core.specs.Node.{Node, IsHub, IsStation, is_station, is_hub, party_of_node, second_hub_node}
 use Rattle.x12_world.specs.World.{World, Outside, parties_of}
@@ -113,21 +112,21 @@ pub stations_kept : {R : Type 0} → (ss : List (StationView R)) (i : ℕ) (new 
 stations_kept ss i new old is same = map-set_same (λ (s : StationView _). IsStation s.state) ss i new old (ap IsStation same ∙ ap (λ (s : StationView _). IsStation s.state) is)
 
 -- the station was asked
-pub asked : {R : Type 0} → (ask : StationAsk) (h : Hubs) (ss : List (StationView R)) (at : Site) (old new : StationView R) (sends : List Packet) → HasNumbers h ss → 1 ≤ at.node → at.node ≤ length ss → old ≡ get_or ss (at.node - 1) old
-    → ask_effect at ask old.state ≡ Some (record { node = IsStation new.state; sends = sends })
+pub asked : {R : Type 0} → (ask : Ask) (h : Hubs) (ss : List (StationView R)) (at : Site) (old new : StationView R) (sends : List Packet) → HasNumbers h ss → 1 ≤ at.node → at.node ≤ length ss → old ≡ get_or ss (at.node - 1) old
+    → does_at x12 at ask (IsStation old.state) ≡ Some (record { node = IsStation new.state; sends = sends })
     → IsAsked ask at (nodes_of h ss) (nodes_of h (set ss (at.node - 1) new)) sends
 asked ask h ss at old new sends numbers low high is effect = record {
-  station = old.state;
+  node = IsStation old.state;
   is = station_there h ss at.node old numbers low high is;
   next = IsStation new.state;
   effect = effect;
   nodes = nodes_changed h ss at.node new numbers low high;
 }
 
-pub asked_in_vain : {R : Type 0} → (ask : StationAsk) (h : Hubs) (ss : List (StationView R)) (node : ℕ) (old : StationView R) (r : CoreFault) → HasNumbers h ss → 1 ≤ node → node ≤ length ss → old ≡ get_or ss (node - 1) old
-    → IsAskRefusal (ask_row ask old.state) r → IsAskedInVain ask node (nodes_of h ss) r
+pub asked_in_vain : {R : Type 0} → (ask : Ask) (h : Hubs) (ss : List (StationView R)) (node : ℕ) (old : StationView R) (r : CoreFault) → HasNumbers h ss → 1 ≤ node → node ≤ length ss → old ≡ get_or ss (node - 1) old
+    → IsCoreRefusal node ask (IsStation old.state) r → IsAskedInVain ask node (nodes_of h ss) r
 asked_in_vain ask h ss node old r numbers low high is why = record {
-  station = old.state;
+  node = IsStation old.state;
   is = station_there h ss node old numbers low high is;
   why = why;
 }
@@ -228,6 +227,40 @@ module _ {R : Type 0} (h : Hubs) (ss : List (StationView R)) (node : ℕ) (numbe
       by (at_station s isnt low high at) = rw (isnt, at) refl
       by (at_none isnt past at) = rw (isnt, at) refl
 
+  -- whether it is asked so: a hub by its number, and else a station
+  pub hub_asked : (a : Ask) (r : Bool) → is_hub_number (is_some h.second) node ≡ true → ((k : Hub) → r ≡ suits node a (IsHub k)) → r ≡ may_be_asked node a (node_at (nodes_of h ss) node)
+  hub_asked a r tells each = by where_is
+    where
+      by : At h ss node → r ≡ may_be_asked node a (node_at (nodes_of h ss) node)
+      by (at_hub k is at) = rw at (each k)
+      by (at_station s isnt low high at) = absurd (false_true (sym isnt ∙ tells))
+      by (at_none isnt past at) = absurd (false_true (sym isnt ∙ tells))
+
+  pub station_asked : (a : Ask) (r : Bool) → is_hub_number (is_some h.second) node ≡ false → is_station (node_at (nodes_of h ss) node) ≡ true → ((s : Station) → r ≡ suits node a (IsStation s)) → r ≡ may_be_asked node a (node_at (nodes_of h ss) node)
+  station_asked a r isnt there each = by where_is
+    where
+      by : At h ss node → r ≡ may_be_asked node a (node_at (nodes_of h ss) node)
+      by (at_hub k tells at) = absurd (false_true (sym isnt ∙ tells))
+      by (at_station s also low high at) = rw at (each s)
+      by (at_none also past at) = absurd (false_true (sym (ap is_station at) ∙ there))
+
+  pub none_asked : (a : Ask) → is_hub_number (is_some h.second) node ≡ false → is_station (node_at (nodes_of h ss) node) ≡ false → false ≡ may_be_asked node a (node_at (nodes_of h ss) node)
+  none_asked a isnt there = by where_is
+    where
+      by : At h ss node → false ≡ may_be_asked node a (node_at (nodes_of h ss) node)
+      by (at_hub k tells at) = absurd (false_true (sym isnt ∙ tells))
+      by (at_station s also low high at) = absurd (false_true (sym there ∙ ap is_station at))
+      by (at_none also past at) = rw at refl
+
+  -- who is asked and is no hub is a station
+  pub station_meant : (a : Ask) → is_hub_number (is_some h.second) node ≡ false → may_be_asked node a (node_at (nodes_of h ss) node) ≡ true → (1 ≤ node) × (node ≤ length ss)
+  station_meant a isnt asked = by where_is
+    where
+      by : At h ss node → (1 ≤ node) × (node ≤ length ss)
+      by (at_hub k tells at) = absurd (false_true (sym isnt ∙ tells))
+      by (at_station s also low high at) = (low, high)
+      by (at_none also past at) = absurd (false_true (sym (ap (may_be_asked node a) at) ∙ asked))
+
   -- and what the tests tell of it
   pub station_number : is_station (node_at (nodes_of h ss) node) ≡ true → (1 ≤ node) × (node ≤ length ss)
   station_number there = by where_is
@@ -240,14 +273,6 @@ module _ {R : Type 0} (h : Hubs) (ss : List (StationView R)) (node : ℕ) (numbe
 -- the code's hubs have a second one where the definition's do
 pub second_kept : {H : Type 0} → (h : CodeHubs H) (node : ℕ) → is_hub_number (is_some h.second) node ≡ is_hub_number (is_some (hubs_in h).second) node
 second_kept h node = ap (λ b. is_hub_number b node) (some_mapped (λ k. k.hub) h.second)
-
--- a node is a hub where its number is one's
-pub kinds : {R : Type 0} → (h : Hubs) (ss : List (StationView R)) → HasNumbers h ss → KindsByNumber (nodes_of h ss) (is_some h.second)
-kinds h ss numbers = λ node there. sym (hub_test h ss node numbers)
-
--- so of the code's
-pub kinds_in : {H R : Type 0} → (h : CodeHubs H) (ss : List (StationView R)) → HasNumbers (hubs_in h) ss → KindsByNumber (nodes_of (hubs_in h) ss) (is_some h.second)
-kinds_in h ss numbers = subst (KindsByNumber (nodes_of (hubs_in h) ss)) (sym (some_mapped (λ k. k.hub) h.second)) (kinds (hubs_in h) ss numbers)
 
 -- 16 stations leave the second hub its number
 pub few_numbers : {H R : Type 0} → (h : CodeHubs H) (ss : List (StationView R)) → length ss ≤ 16 → HasNumbers (hubs_in h) ss

@@ -12,8 +12,9 @@ use Rattle.x12_judge.specs.Agreement.{TradingAgreement}
 use Rattle.x12_envelopes.specs.declared.moment.Moment.{Moment}
 use Rattle.x12_profile.specs.Interchange.{Bytes}
 use Rattle.x12_station.specs.Station.{Station, new_station}
+use Rattle.x12_core.specs.Action.{Prepared, Collect, Agree, Enrol, Restart}
 use Rattle.x12_core.specs.Node.{Node, IsHub, IsStation, hub_node, second_hub_node}
-use Rattle.x12_world.specs.World.{World, Event, SubmitPrepared, Deliver, Collect, Agree, Enrol, Restart}
+use Rattle.x12_world.specs.World.{World, Event, At, Deliver}
 use Rattle.x12_world.specs.Premise.{Reaches, PremiseIsMet}
 use Rattle.x12_numbers.proofs.Shelf.{contains_head}
 use Rattle.x12_world.proofs.ToyProfile.{toy, toy_laws, party, the_set}
@@ -113,11 +114,11 @@ two_hubs = begun (Some (party 3)) second_hub_node
 
 -- enrolled, submitted, deposited, collected, judged, its reply deposited, collected and handled
 abbrev over_one : Event → List Event
-over_one first = first ∷ Enrol hub_node (party 1) 1 ∷ Enrol hub_node (party 2) 2 ∷ SubmitPrepared 1 order ∷ packet 4 1 ∷ Collect hub_node 2 ∷ packet 6 1 ∷ packet 7 2 ∷ Collect hub_node 1 ∷ packet 9 1 ∷ []
+over_one first = first ∷ At hub_node (Enrol (party 1) 1) ∷ At hub_node (Enrol (party 2) 2) ∷ At 1 (Prepared order) ∷ packet 4 1 ∷ At hub_node (Collect 2) ∷ packet 6 1 ∷ packet 7 2 ∷ At hub_node (Collect 1) ∷ packet 9 1 ∷ []
 
 -- the same, where the receiver is at the second hub: the order is deposited at both, and so is the reply
 abbrev over_two : Event → List Event
-over_two first = first ∷ Enrol hub_node (party 1) 1 ∷ Enrol hub_node (party 2) second_hub_node ∷ Enrol second_hub_node (party 2) 2 ∷ Enrol second_hub_node (party 1) hub_node ∷ SubmitPrepared 1 order ∷ packet 6 1 ∷ Collect hub_node second_hub_node ∷ packet 8 1 ∷ Collect second_hub_node 2 ∷ packet 10 1 ∷ packet 11 2 ∷ Collect second_hub_node hub_node ∷ packet 13 1 ∷ Collect hub_node 1 ∷ packet 15 1 ∷ []
+over_two first = first ∷ At hub_node (Enrol (party 1) 1) ∷ At hub_node (Enrol (party 2) second_hub_node) ∷ At second_hub_node (Enrol (party 2) 2) ∷ At second_hub_node (Enrol (party 1) hub_node) ∷ At 1 (Prepared order) ∷ packet 6 1 ∷ At hub_node (Collect second_hub_node) ∷ packet 8 1 ∷ At second_hub_node (Collect 2) ∷ packet 10 1 ∷ packet 11 2 ∷ At second_hub_node (Collect hub_node) ∷ packet 13 1 ∷ At hub_node (Collect 1) ∷ packet 15 1 ∷ []
 
 abbrev station_in : Option Node → Station
 station_in None = new_station (party 0) []
@@ -129,10 +130,10 @@ sender_in w = station_in (node_at w.nodes 1)
 
 -- the receiver agrees first, or it doesn't
 abbrev agreed : Event
-agreed = Agree 2 agreement
+agreed = At 2 (Agree agreement)
 
 abbrev not_agreed : Event
-not_agreed = Restart 2
+not_agreed = At 2 Restart
 
 one_network : IsNetwork toy (net_of None hub_node)
 one_network = network None hub_node 3 refl (inl refl)

@@ -1,22 +1,16 @@
--- What the code's events stand for.
-use Rattle.std.specs.Prelude.{map}
-use Rattle.x12_judge.specs.Agreement.{agreement_view}
-use Rattle.x12_station.specs.Ordering.{order_view}
+-- What the code's events stand for, and what it asks.
+use Rattle.std.specs.Prelude.{ℕ}
+use Rattle.x12_core.specs.declared.ask.AskRef.{AskRef}
+use Rattle.x12_core.specs.View.{action_view, name_view, ref_view}
 use Rattle.x12_world.specs.declared.event.Event.{Event as CodeEvent}
 use Rattle.x12_world.specs.declared.event.Event.TheVariants as code
-use Rattle.x12_core.specs.View.{name_view}
-use Rattle.x12_world.specs.World.{Event, SubmitOrders, SubmitPrepared, Deliver, Outside, Tick}
-use Rattle.x12_world.specs.World.{Collect, Agree, Enrol, Dismiss, Restart}
+use Rattle.x12_world.specs.Effect.{Asked}
+use Rattle.x12_world.specs.World.{Event, At, Deliver, Outside}
 
 abbrev pub event_view : CodeEvent → Event
-event_view (code.SubmitOrders node to at orders) =
-    SubmitOrders node to at (map order_view orders.items)
-event_view (code.SubmitPrepared node bytes) = SubmitPrepared node bytes.items
+event_view (code.At node action) = At node (action_view action)
 event_view (code.Deliver packet at) = Deliver (name_view packet) at
 event_view (code.Outside node bytes at) = Outside node bytes.items at
-event_view (code.Tick node now) = Tick node now
-event_view (code.Collect hub node) = Collect hub node
-event_view (code.Agree node agreement) = Agree node (agreement_view agreement)
-event_view (code.Enrol hub party node) = Enrol hub party node
-event_view (code.Dismiss hub party) = Dismiss hub party
-event_view (code.Restart node) = Restart node
+
+abbrev pub asked_view : ℕ × AskRef → Asked
+asked_view t = record { node = t.0; ask = ref_view t.1 }

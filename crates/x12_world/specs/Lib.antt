@@ -28,7 +28,6 @@ pub mod Runs
 pub mod Taking
 pub mod Refusing
 pub mod Asks
-pub mod Target
 pub mod Ran
 pub mod Founding
 pub mod Asking

@@ -4,30 +4,21 @@ use Rattle.x12_profile.specs.Interchange.{Bytes, PlaceOfSet}
 use Rattle.x12_profile.specs.Profile.{Profile}
 use Rattle.x12_station.specs.History.{submissions, fate_in, posted_under}
 use Rattle.x12_station.specs.Station.{Station}
-use Rattle.x12_core.specs.Packet.{Packet, carried}
-use Rattle.x12_world.specs.Packet.{packet_of}
-use Rattle.x12_world.specs.World.{World, Event, SubmitOrders, SubmitPrepared, Deliver, Outside, Tick, Collect, Agree, Enrol, Dismiss, Restart, StationAt, is_named}
+use Rattle.x12_core.specs.Ask.{bytes_of_ask}
+use Rattle.x12_world.specs.Effect.{Asked, asked_by}
+use Rattle.x12_world.specs.World.{World, Event, StationAt, is_named}
 use Rattle.x12_world.specs.Traffic.{IsNode}
 use Rattle.x12_world.specs.Run.{happens}
 use Rattle.x12_acks.specs.Submission.{TransactionSetKey}
 
--- the interchange that a packet carries, if there is one
-abbrev pub carried_by : Option Packet → Option Bytes
-carried_by None = None
-carried_by (Some q) = carried q.load
+-- the interchange that comes with what is asked, if some is
+abbrev pub bytes_asked : Option Asked → Option Bytes
+bytes_asked None = None
+bytes_asked (Some a) = bytes_of_ask a.ask
 
 -- the interchange that an event brings to a node: from outside, or in a packet
 abbrev pub brings : World → Event → Option Bytes
-brings w (Outside i b at) = Some b
-brings w (Deliver name at) = carried_by (packet_of w.packets name)
-brings w (SubmitOrders i to at texts) = None
-brings w (SubmitPrepared i x) = None
-brings w (Tick i now) = None
-brings w (Collect k i) = None
-brings w (Agree i a) = None
-brings w (Enrol k party i) = None
-brings w (Dismiss k party) = None
-brings w (Restart i) = None
+brings w e = bytes_asked (asked_by w.packets e)
 
 module _ (p : Profile) where
   -- no fate of a set addressed to a node changes, and no posting under a node's name

@@ -1,35 +1,22 @@
 -- Why a running network refuses an event: by the table of refusals, or as a node's own table says.
 -- Of want of memory and of records that fail no table tells.
-use Rattle.std.specs.Prelude.{◌≡◌, Option, Some, None, option_and_then}
-use Rattle.x12_hub.specs.Hub.{Hub}
+use Rattle.std.specs.Prelude.{◌≡◌, Option, Some, None}
+use Rattle.x12_core.specs.declared.fault.NodeFault.{NodeFault}
+use Rattle.x12_core.specs.Fault.{IsRefusalOfAsk}
+use Rattle.x12_core.specs.Node.{Node}
 use Rattle.x12_profile.specs.X12.{x12}
-use Rattle.x12_station.specs.declared.fault.StationFault.{StationFault}
-use Rattle.x12_station.specs.Fault.{IsRowOrWant, orders_fault, prepared_fault, arrival_fault}
-use Rattle.x12_station.specs.Station.{Station}
 use Rattle.x12_world.specs.declared.refused.Refused.{Refused}
 use Rattle.x12_world.specs.declared.refused.Refused.TheVariants as code
-use Rattle.x12_core.specs.declared.fault.NodeFault.{NodeFault}
-use Rattle.x12_core.specs.declared.fault.NodeFault.TheVariants as node
-use Rattle.x12_world.specs.World.{World, Event, SubmitOrders, SubmitPrepared, StationAt, HubAt}
-use Rattle.x12_world.specs.Effect.{Act, act_of}
+use Rattle.x12_world.specs.Effect.{Asked, asked_by}
 use Rattle.x12_world.specs.EventRefusal.{EventRefusal, network_refusal, NoEventLeft, NoSuchNode, NoSuchPacket, SpokenFor}
-use Rattle.x12_core.specs.HubAsk.{IsHubFault}
-use Rattle.x12_world.specs.Outsider.{brings}
+use Rattle.x12_world.specs.Nodes.{node_at}
+use Rattle.x12_world.specs.World.{World, Event}
 
--- what the table of a station says of the event, with the numbers S1 to S12
-abbrev pub station_row : World → Event → Station → Option StationFault
-station_row w (SubmitOrders i to at texts) s = orders_fault s to at texts
-station_row w (SubmitPrepared i x) s = prepared_fault s x
-station_row w e s = option_and_then (arrival_fault s) (brings w e)
-
--- the node at which the event acts says so
+-- the node that the event asks says so
 abbrev pub IsNodeFault : World → Event → NodeFault → Type 0
-IsNodeFault w e (node.OfStation fault) =
-    (a : Act x12) × (s : Station) × (act_of x12 w e ≡ Some a) × StationAt w a.node s
-    × IsRowOrWant (station_row w e s) fault
-IsNodeFault w e (node.OfHub fault) =
-    (a : Act x12) × (h : Hub) × (act_of x12 w e ≡ Some a) × HubAt w a.node h
-    × IsHubFault h (brings w e) fault
+IsNodeFault w e fault =
+    (a : Asked) × (n : Node) × (asked_by w.packets e ≡ Some a) × (node_at w.nodes a.node ≡ Some n)
+    × IsRefusalOfAsk a.ask n fault
 
 -- the network says why it refuses: by its own table first, then for want of memory, then by its node
 abbrev pub IsNetworkRefusal : World → Event → Refused → Type 0

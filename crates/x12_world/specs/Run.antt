@@ -2,14 +2,14 @@
 use Rattle.std.specs.Prelude.{List, [], ◌∷◌, ◌++◌, if◌then◌else◌, is_some}
 use Rattle.x12_profile.specs.Profile.{Profile}
 use Rattle.x12_world.specs.World.{World, Event}
-use Rattle.x12_world.specs.Effect.{act_of, after_act}
+use Rattle.x12_world.specs.Effect.{asked_by, after_asked}
 use Rattle.x12_world.specs.EventRefusal.{event_refusal}
 use Rattle.x12_world.specs.Network.{Network, IsNetwork, new_nodes}
 
 module _ (p : Profile) where
   -- the world after an event, which changes nothing where it is refused
   abbrev pub happens : World → Event → World
-  happens w e = if is_some (event_refusal p w e) then w else after_act p w (act_of p w e)
+  happens w e = if is_some (event_refusal p w e) then w else after_asked p w (asked_by w.packets e)
 
   -- the world after a list of events; one that is refused is passed over, where `World::run` stops
   abbrev pub run : List Event → World → World

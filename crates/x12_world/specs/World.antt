@@ -1,11 +1,12 @@
 -- The world: its nodes, every packet that was ever sent, and what can happen in it.
 use Rattle.std.specs.Prelude.{◌≡◌, ℕ, List, Bool, map, is_some, Some}
 use Rattle.std.specs.List.{list_any}
+use Rattle.x12_core.specs.Action.{Action}
 use Rattle.x12_core.specs.Node.{IsHub, IsStation, party_of_node, is_station, is_hub}
 use Rattle.x12_envelopes.specs.declared.party.Party.{Party}
-use Rattle.x12_judge.specs.Agreement.{is_same_party, TradingAgreement}
+use Rattle.x12_judge.specs.Agreement.{is_same_party}
 use Rattle.x12_envelopes.specs.declared.moment.Moment.{Moment}
-use Rattle.x12_profile.specs.Interchange.{Bytes, Order}
+use Rattle.x12_profile.specs.Interchange.{Bytes}
 use Rattle.x12_profile.specs.Profile.{Profile}
 use Rattle.x12_station.specs.Station.{Station}
 use Rattle.x12_hub.specs.Hub.{Hub}
@@ -20,21 +21,14 @@ pub record World : Type 0 where
   -- how many events there were
   pub events : ℕ
 
--- what happens, and at which node; what writes carries its moment
+-- what happens, and at which node
 pub data Event : Type 0 where
-  SubmitOrders : (node : ℕ) → Party → Moment → List Order → Event
-  SubmitPrepared : (node : ℕ) → Bytes → Event
+  -- a node does something of itself
+  At : (node : ℕ) → Action → Event
+  -- a packet comes to its node, for the first time or again
   Deliver : PacketName → Moment → Event
-  -- bytes from outside the network
+  -- bytes come to a node from outside the network
   Outside : (node : ℕ) → Bytes → Moment → Event
-  Tick : (node : ℕ) → ℕ → Event
-  -- a hub sends what waits in a node's mailbox
-  Collect : (hub : ℕ) → (node : ℕ) → Event
-  Agree : (node : ℕ) → TradingAgreement → Event
-  -- a party gets its mailbox at a hub for a node
-  Enrol : (hub : ℕ) → Party → (node : ℕ) → Event
-  Dismiss : (hub : ℕ) → Party → Event
-  Restart : (node : ℕ) → Event
 
 -- node i of the world is this station
 abbrev pub StationAt : World → ℕ → Station → Type 0

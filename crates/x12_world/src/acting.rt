@@ -13,13 +13,13 @@ ghost use Rattle.x12_core.specs.Submission.{listed};
 ghost use Rattle.x12_world.specs.Submission.{ListsMore};
 ghost use Rattle.x12_world.specs.Taking.{IsTaken};
 
+use crate::asked::asked;
 use crate::at_hub::at_hub;
 use crate::at_station::at_station;
 use crate::event::Event;
 use crate::hubs::Hubs;
 use crate::packets::Held;
 use crate::refused::Refused;
-use crate::target::{Target, whose};
 use std::alloc::Global;
 use x12_core::Sends;
 use x12_hub::HubRecords;
@@ -52,11 +52,12 @@ pub(crate) fn act<R: Records, H: HubRecords>(
         (failures_of hubs.old stations.old.items) (failures_of hubs.new stations.new.items) }
     ensures len { length stations.new.items ≡ length stations.old.items }
 {
-    match whose(hubs, held, event) {
-        Some(Target::Hub(node, ask)) => Ok(at_hub(hubs, node, &ask)?),
-        Some(Target::Station(node, ask)) => {
-            Ok(at_station(alloc, stations, hubs.site(node), &ask)?)
-        }
-        None => Err(Refused::NoSuchPacket),
+    let Some((node, ask)) = asked(held, event) else {
+        return Err(Refused::NoSuchPacket);
+    };
+    let site = hubs.site(node);
+    if hubs.have(node) {
+        return Ok(at_hub(hubs, site, &ask)?);
     }
+    Ok(at_station(alloc, stations, site, &ask)?)
 }

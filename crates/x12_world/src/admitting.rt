@@ -1,29 +1,28 @@
 //! The network's own table of refusals: V7, V4, V1 and V2, in this order.
 
-ghost use Rattle.std.specs.Prelude.{◌≡◌, ◌≤◌, ◌+◌, ℕ, IsTrue, length, map, None, IfOk, IfErr, OnOk, vec_len, true};
+ghost use Rattle.std.specs.Prelude.{◌≡◌, ◌≤◌, ◌+◌, ℕ, IsTrue, length, map, None, IfOk, IfErr, OnOk, vec_len};
+ghost use Rattle.std.specs.Prelude.{is_some, option_map, List, Vec};
+ghost use Rattle.std.specs.Global.{Global};
 ghost use Rattle.std.specs.List.{list_any};
 ghost use Rattle.x12_judge.specs.Agreement.{is_same_party};
 ghost use Rattle.x12_profile.specs.X12.{x12};
-ghost use Rattle.x12_core.specs.Ask.{is_for};
-ghost use Rattle.x12_world.specs.EventRefusal.{has_nodes, is_spoken_for, is_unknown, may_serve};
+ghost use Rattle.x12_core.specs.declared.packet.Packet.{Packet};
+ghost use Rattle.x12_core.specs.Node.{is_station, party_of_node};
+ghost use Rattle.x12_core.specs.View.{ref_view};
+ghost use Rattle.x12_world.specs.EventRefusal.{has_nodes, is_spoken_for, is_there, may_be_asked};
 ghost use Rattle.x12_world.specs.EventRefusal.{network_refusal};
-ghost use Rattle.x12_world.specs.EventView.{event_view};
+ghost use Rattle.x12_world.specs.EventView.{asked_view, event_view};
 ghost use Rattle.x12_world.specs.Failing.{SaysOneFailed};
 ghost use Rattle.x12_world.specs.Refusing.{IsOfNetwork};
-ghost use Rattle.x12_world.specs.Nodes.{Nodes, all_nodes, node_at};
+ghost use Rattle.x12_world.specs.Nodes.{all_nodes, node_at};
 ghost use Rattle.x12_world.specs.Running.{BesideAnyHubs, HasNumbers, hubs_in, nodes_of, world_of};
-ghost use Rattle.x12_world.specs.Running.{world_with};
-ghost use Rattle.x12_core.specs.View.{load_view};
-ghost use Rattle.x12_core.specs.Node.{is_hub, is_station, party_of_node};
-ghost use Rattle.std.specs.Prelude.{is_some, List, Vec};
-ghost use Rattle.std.specs.Global.{Global};
-ghost use Rattle.x12_core.specs.declared.packet.Packet.{Packet};
 
+use crate::asked::asked;
 use crate::event::Event;
 use crate::hubs::Hubs;
-use crate::packets::{Held, find};
+use crate::packets::Held;
 use crate::refused::Refused;
-use x12_core::{HUB_NODE, Load};
+use x12_core::{AskRef, HUB_NODE};
 use x12_envelopes::{Party, read_header};
 use x12_hub::HubRecords;
 use x12_station::{Records, Station};
@@ -51,80 +50,51 @@ fn is_node<R: Records, H: HubRecords>(hubs: &Hubs<H>, stations: &[Station<R>], n
     is_station(stations, node)
 }
 
-/// Whether a hub is of this number.
-fn is_hub<R: Records, H: HubRecords>(hubs: &Hubs<H>, stations: &[Station<R>], node: u16) -> bool
-    ensures { HasNumbers (hubs_in hubs.now) stations.now →
-        result ≡ is_hub (node_at (nodes_of (hubs_in hubs.now) stations.now) node) }
-{
-    hubs.have(node)
-}
-
-/// Whether a node is of the kind that takes a load: deposits and reports go to hubs.
-fn is_for<R: Records, H: HubRecords>(
-    load: &Load,
+/// Whether the node of this number is there, and of the kind that is asked so.
+fn may_be_asked<R: Records, H: HubRecords>(
     hubs: &Hubs<H>,
     stations: &[Station<R>],
-    to: u16,
-) -> bool
-    ensures { HasNumbers (hubs_in hubs.now) stations.now → result
-        ≡ is_for (load_view load.now) (node_at (nodes_of (hubs_in hubs.now) stations.now) to) }
-{
-    match load {
-        Load::Deposit(_) => is_hub(hubs, stations, to),
-        Load::Taken(_) => is_hub(hubs, stations, to),
-        Load::Item(_, _) => is_node(hubs, stations, to),
-        Load::Refusal(_) => is_node(hubs, stations, to),
-    }
-}
-
-/// Whether a hub may have a mailbox for a node: for any that is there, but not for itself.
-fn may_serve<R: Records, H: HubRecords>(
-    hubs: &Hubs<H>,
-    stations: &[Station<R>],
-    hub: u16,
     node: u16,
+    ask: &AskRef<'_>,
+) -> bool
+    ensures { HasNumbers (hubs_in hubs.now) stations.now → result ≡ may_be_asked node
+        (ref_view ask.now) (node_at (nodes_of (hubs_in hubs.now) stations.now) node) }
+{
+    if hubs.have(node) {
+        return ask.suits_hub(node);
+    }
+    is_station(stations, node) && ask.suits_station()
+}
+
+/// Whether there is a node of this number, where one is given.
+fn is_there<R: Records, H: HubRecords>(
+    hubs: &Hubs<H>,
+    stations: &[Station<R>],
+    node: Option<u16>,
 ) -> bool
     ensures { HasNumbers (hubs_in hubs.now) stations.now → (held : List (Vec Packet Global)) →
-        result ≡ may_serve (world_of hubs.now stations.now held) hub node }
+        result ≡ is_there (world_of hubs.now stations.now held) node }
 {
-    is_hub(hubs, stations, hub) && is_node(hubs, stations, node) && hub != node
+    match node {
+        Some(node) => is_node(hubs, stations, node),
+        None => true,
+    }
 }
 
 /// Whether the nodes that an event names are there, and of its kind.
 fn has_nodes<R: Records, H: HubRecords>(
     hubs: &Hubs<H>,
     stations: &[Station<R>],
-    held: &Held,
-    event: &Event,
+    asked: &Option<(u16, AskRef<'_>)>,
 ) -> bool
-    ensures { HasNumbers (hubs_in hubs.now) stations.now → result
-        ≡ has_nodes (world_of hubs.now stations.now held.now.items) (event_view event.now) }
+    ensures { HasNumbers (hubs_in hubs.now) stations.now → (held : List (Vec Packet Global)) →
+        result ≡ has_nodes (world_of hubs.now stations.now held) (option_map asked_view asked.now) }
 {
-    match event {
-        Event::SubmitOrders { node, .. } => is_station(stations, *node),
-        Event::SubmitPrepared { node, .. } => is_station(stations, *node),
-        Event::Deliver { packet, .. } => match find(held, packet) {
-            Some(packet) => is_for(&packet.load, hubs, stations, packet.to),
-            None => true,
-        },
-        Event::Outside { node, .. } => is_node(hubs, stations, *node),
-        Event::Tick { node, .. } => is_station(stations, *node),
-        Event::Collect { hub, node } => may_serve(hubs, stations, *hub, *node),
-        Event::Agree { node, .. } => is_station(stations, *node),
-        Event::Enrol { hub, node, .. } => may_serve(hubs, stations, *hub, *node),
-        Event::Dismiss { hub, .. } => is_hub(hubs, stations, *hub),
-        Event::Restart { node } => is_node(hubs, stations, *node),
-    }
-}
-
-/// Whether an event delivers a packet that isn't held.
-fn is_unknown(held: &Held, event: &Event) -> bool
-    ensures { (nodes : Nodes) →
-        result ≡ is_unknown (world_with nodes held.now.items) (event_view event.now) }
-{
-    match event {
-        Event::Deliver { packet, .. } => find(held, packet).is_none(),
-        _ => false,
+    match asked {
+        Some((node, ask)) => {
+            may_be_asked(hubs, stations, *node, ask) && is_there(hubs, stations, ask.node_meant())
+        }
+        None => true,
     }
 }
 
@@ -194,10 +164,11 @@ pub(crate) fn admit<R: Records, H: HubRecords>(
     if last >= u64::MAX - 1 {
         return Err(Refused::Exhausted);
     }
-    if !has_nodes(hubs, stations, held, event) {
+    let asked = asked(held, event);
+    if !has_nodes(hubs, stations, &asked) {
         return Err(Refused::NoSuchNode);
     }
-    if is_unknown(held, event) {
+    if asked.is_none() {
         return Err(Refused::NoSuchPacket);
     }
     if is_spoken_for(hubs, stations, event) {

@@ -1,4 +1,4 @@
-//! An event at a station of a network.
+//! What a station of a network is asked.
 
 ghost use Rattle.std.specs.Prelude.{◌≡◌, ◌≤◌, IsTrue, IfOk, IfErr, OnErr, length, vec_len};
 ghost use Rattle.x12_world.specs.Asking.{states_of};
@@ -7,30 +7,31 @@ ghost use Rattle.x12_world.specs.Failing.{station_failures, CountsAsked};
 ghost use Rattle.x12_world.specs.Running.{HasNumbers, Hubs, all_answer, nodes_of, station_nodes};
 ghost use Rattle.x12_core.specs.Sends.{sends_view};
 ghost use Rattle.x12_core.specs.Submission.{listed};
+ghost use Rattle.x12_core.specs.View.{ref_view};
 ghost use Rattle.x12_world.specs.Submission.{ListsMore};
 
 use std::alloc::Global;
-use x12_core::{CoreFault, Sends, Site, StationAsk, ask_station};
+use x12_core::{AskRef, CoreFault, Sends, Site, ask_station};
 use x12_station::{Records, Station};
 
-/// Asks the station of this site. L4 where an agreement can't be copied; L3.
+/// Asks the station of this site. L7; L4 where an agreement can't be copied; L3.
 pub(crate) fn at_station<R: Records>(
     alloc: Global,
     stations: &mut Vec<Station<R>>,
     site: Site,
-    ask: &StationAsk<'_>,
+    ask: &AskRef<'_>,
 ) -> Result<Sends, CoreFault>
     requires there { (1 ≤ site.node) × (site.node ≤ vec_len stations.old) }
     ensures never_won_back { IsTrue (all_answer stations.new.items) →
         IsTrue (all_answer stations.old.items) }
     ensures took { IsTrue (all_answer stations.new.items) → IfOk result (λ sends. (h : Hubs) →
-        HasNumbers h stations.old.items → IsAsked ask.now site
+        HasNumbers h stations.old.items → IsAsked (ref_view ask.now) site
         (nodes_of h stations.old.items) (nodes_of h stations.new.items) (sends_view sends)) }
     ensures submits { IsTrue (all_answer stations.new.items) → IfOk result (λ sends.
         ListsMore (states_of stations.old.items) (states_of stations.new.items) (listed sends)) }
     ensures refused { IsTrue (all_answer stations.new.items) → IfErr result (λ r. (h : Hubs) →
         HasNumbers h stations.old.items →
-        IsAskedInVain ask.now site.node (nodes_of h stations.old.items) r) }
+        IsAskedInVain (ref_view ask.now) site.node (nodes_of h stations.old.items) r) }
     ensures unchanged { IsTrue (all_answer stations.new.items) →
         OnErr result (station_nodes stations.new.items ≡ station_nodes stations.old.items) }
     ensures store { CountsAsked result

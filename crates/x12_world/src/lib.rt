@@ -5,6 +5,7 @@
 mod acting;
 mod admitting;
 mod applying;
+mod asked;
 mod asking;
 mod at_hub;
 mod at_station;
@@ -25,7 +26,6 @@ mod posted;
 mod refused;
 mod running;
 mod submission;
-mod target;
 mod world;
 pub mod x12;
 
@@ -40,4 +40,4 @@ pub use laws::{
 pub use outcome::{Outcome, ToldPacket};
 pub use refused::Refused;
 pub use world::World;
-pub use x12_core::{HUB_NODE, Kind, Load, NodeFault, Packet, PacketName, SECOND_HUB_NODE};
+pub use x12_core::{Action, HUB_NODE, Kind, Load, NodeFault, Packet, PacketName, SECOND_HUB_NODE};

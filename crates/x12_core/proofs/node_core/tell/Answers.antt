@@ -1,12 +1,11 @@
 -- A fault of the records is one of any table.
-use Rattle.std.proofs.Common.{ap}
-use Rattle.x12_core.specs.Ask.{suits}
-use Rattle.x12_core.specs.Node.{IsStation}
-use Rattle.x12_core.specs.View.{ask_view}
+use Rattle.std.proofs.Common.{refl}
+use Rattle.x12_acks.specs.Key.{key_view}
+use Rattle.x12_core.specs.Ask.{Fate}
 use Rattle.x12_core.proofs.AskLemmas.{records_refuse}
 use Rattle.x12_core.proofs.node_core.tell.Goals as goal
 
 pub returns-in_err-fate-clause-refused : goal.returns-in_err-fate-clause-refused
 returns-in_err-fate-clause-refused g c =
     let s = c.args.station.now.state in
-    records_refuse c.from_residual.result c.in_err-fate.field-0.0 (ask_view c.args.ask.now) s (λ i. ap (λ a. suits i (ask_view a) (IsStation s)) c.requires.asked) c.in_err-fate.ensures.fault c.from_residual.ensures.1
+    records_refuse c.from_residual.result c.in_err-fate.field-0.0 (Fate (key_view c.args.key.now)) s (λ i. refl) c.in_err-fate.ensures.fault c.from_residual.ensures.1

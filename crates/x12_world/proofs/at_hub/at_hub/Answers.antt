@@ -3,8 +3,8 @@ use Rattle.x12_world.proofs.FailingLemmas.{asked_first, asked_second}
 use Rattle.std.proofs.Common.{refl, Some}
 use Rattle.x12_world.proofs.at_hub.at_hub.Goals as goal
 
-pub returns-then-node-eq-HUB_NODE-clause-store : goal.returns-then-node-eq-HUB_NODE-clause-store
-returns-then-node-eq-HUB_NODE-clause-store g c = λ fs.
+pub returns-then-site-eq-HUB_NODE-clause-store : goal.returns-then-site-eq-HUB_NODE-clause-store
+returns-then-site-eq-HUB_NODE-clause-store g c = λ fs.
     asked_first c.ask_hub.result c.args.hubs.now (record c.args.hubs.now { first = c.ask_hub.new.hub }) fs refl c.ask_hub.ensures.store
 
 pub returns-in-Some-clause-store : goal.returns-in-Some-clause-store

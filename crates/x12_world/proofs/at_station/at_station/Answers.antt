@@ -2,6 +2,7 @@
 use Rattle.std.proofs.Common.{◌≡◌, ◌-◌, ◌+◌, ◌<◌, ◌≤◌, length, subst, arith, IsTrue}
 use Rattle.x12_world.specs.Running.{HasNumbers, Hubs}
 use Rattle.x12_core.specs.Sends.{sends_view}
+use Rattle.x12_core.specs.View.{ref_view}
 use Rattle.x12_world.proofs.FailingLemmas.{asked_among}
 use Rattle.x12_world.proofs.RunningLemmas.{asked, asked_in_vain, answers_there, answered_before, stations_kept, if_err, on_err}
 use Rattle.std.proofs.lemmas.Result.{IfOk-weaker}
@@ -26,7 +27,7 @@ returns-clause-took g c = λ answers.
     let new = c.ask_station.new.station in
     let low = c.requires.there.0 in
     let high : c.args.site.node ≤ length ss.items = let e = ss.ok.0 in let up = c.requires.there.1 in omega arith in
-    IfOk-weaker c.ask_station.result _ _ (λ sends effect (h : Hubs) (numbers : HasNumbers h ss.items). asked c.args.ask.now h ss.items c.args.site old new (sends_view sends) numbers low high c.index_mut-station.ensures.value effect)
+    IfOk-weaker c.ask_station.result _ _ (λ sends effect (h : Hubs) (numbers : HasNumbers h ss.items). asked (ref_view c.args.ask.now) h ss.items c.args.site old new (sends_view sends) numbers low high c.index_mut-station.ensures.value effect)
     (c.ask_station.ensures.took (answers_there ss.items i new (omega arith) answers))
 
 pub returns-clause-refused : goal.returns-clause-refused
@@ -37,7 +38,7 @@ returns-clause-refused g c = λ answers.
     let new = c.ask_station.new.station in
     let low = c.requires.there.0 in
     let high : c.args.site.node ≤ length ss.items = let e = ss.ok.0 in let up = c.requires.there.1 in omega arith in
-    if_err c.ask_station.result _ _ (λ r why (h : Hubs) (numbers : HasNumbers h ss.items). asked_in_vain c.args.ask.now h ss.items c.args.site.node old r numbers low high c.index_mut-station.ensures.value why)
+    if_err c.ask_station.result _ _ (λ r why (h : Hubs) (numbers : HasNumbers h ss.items). asked_in_vain (ref_view c.args.ask.now) h ss.items c.args.site.node old r numbers low high c.index_mut-station.ensures.value why)
     (c.ask_station.ensures.refused (answers_there ss.items i new (omega arith) answers))
 
 pub returns-clause-unchanged : goal.returns-clause-unchanged

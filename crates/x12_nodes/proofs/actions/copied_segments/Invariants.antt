@@ -1,7 +1,7 @@
 -- the copies so far, and what is left, are all
 use Rattle.std.proofs.Common.{◌≡◌, ◌++◌, drop, map}
 use Rattle.x12_envelopes.specs.Envelope.{segment_view}
-use Rattle.x12_nodes.proofs.copying.copied_segments.Given as goal
+use Rattle.x12_nodes.proofs.actions.copied_segments.Given as goal
 
 abbrev pub invariant-loop-segment : goal.invariant-loop-segment
 invariant-loop-segment l =

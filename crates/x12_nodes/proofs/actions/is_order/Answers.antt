@@ -3,7 +3,7 @@ use Rattle.std.proofs.Common.{◌∙◌, ap, bytes_eq}
 use Rattle.std.specs.Cmp.Lexicographic.{pointwise}
 use Rattle.x12_envelopes.specs.Envelope.{segment_view}
 use Rattle.x12_nodes.proofs.ComparingLemmas.{pointwise_viewed}
-use Rattle.x12_nodes.proofs.comparing.is_order.Goals as goal
+use Rattle.x12_nodes.proofs.actions.is_order.Goals as goal
 
 pub returns : goal.returns
 returns c =

@@ -3,7 +3,7 @@ use Rattle.std.proofs.Common.{◌≡◌, length, map}
 use Rattle.std.specs.Cmp.Lexicographic.{pointwise}
 use Rattle.x12_nodes.specs.Comparing.{order_is}
 use Rattle.x12_station.specs.Ordering.{order_view}
-use Rattle.x12_nodes.proofs.comparing.are_orders.Given as goal
+use Rattle.x12_nodes.proofs.actions.are_orders.Given as goal
 
 abbrev pub invariant-loop-one : goal.invariant-loop-one
 invariant-loop-one l =
