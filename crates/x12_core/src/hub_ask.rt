@@ -92,10 +92,7 @@ fn act<H: HubRecords>(hub: &mut Hub<H>, site: Site, action: &Action) -> Result<S
             hub.restart()?;
             Ok(Sends::Nothing)
         }
-        Action::SubmitOrders { .. } => Err(CoreFault::WrongKind),
-        Action::SubmitPrepared { .. } => Err(CoreFault::WrongKind),
-        Action::Tick { .. } => Err(CoreFault::WrongKind),
-        Action::Agree { .. } => Err(CoreFault::WrongKind),
+        _ => Err(CoreFault::WrongKind),
     }
 }
 

@@ -113,9 +113,7 @@ fn act<R: Records>(
             station.restart()?;
             Ok(Sends::Nothing)
         }
-        Action::Collect { .. } => Err(CoreFault::WrongKind),
-        Action::Enrol { .. } => Err(CoreFault::WrongKind),
-        Action::Dismiss { .. } => Err(CoreFault::WrongKind),
+        _ => Err(CoreFault::WrongKind),
     }
 }
 

@@ -1,6 +1,6 @@
 //! A network whose nodes keep their records in SQLite tables.
 
-ghost use Rattle.std.specs.Prelude.{◌≡◌, IsTrue, IfOk, IfErr, OnOk, List, map};
+ghost use Rattle.std.specs.Prelude.{◌≡◌, IfOk, IfErr, OnOk, List, map};
 ghost use Rattle.x12_profile.specs.X12.{x12};
 ghost use Rattle.x12_world.specs.Failing.{SaysOneFailed};
 ghost use Rattle.x12_world.specs.EventView.{event_view};
@@ -9,6 +9,7 @@ ghost use Rattle.x12_world.specs.Loss.{Happening, run_so};
 ghost use Rattle.x12_world.specs.Outsider.{OutsidersMoveNothing};
 ghost use Rattle.x12_world.specs.Ran.{RanAll, StoppedAt, outcome_view};
 ghost use Rattle.x12_world.specs.Reach.{Onward, AlwaysFollows, OfBoth, ReachedFacts};
+ghost use Rattle.x12_world.specs.Running.{AllAnswer, NoneWonBack};
 
 use sqlite::Alter;
 use x12_hub_records::SqliteHubRecords;
@@ -31,22 +32,22 @@ pub fn run<S: Alter, T: Alter>(
     network: &mut SqliteWorld<S, T>,
     events: &[Event],
 ) -> Result<Vec<Outcome>, (usize, Refused)>
-    ensures never_won_back { IsTrue network.new.answers → IsTrue network.old.answers }
-    ensures ran { IsTrue network.new.answers → IfOk result (λ os. RanAll network.old.world
+    ensures never_won_back { NoneWonBack network.old.answers network.new.answers }
+    ensures ran { AllAnswer network.new → IfOk result (λ os. RanAll network.old.world
         (map event_view events.now) (map outcome_view os.items) network.new.world) }
-    ensures stopped { IsTrue network.new.answers → IfErr result (λ e.
+    ensures stopped { AllAnswer network.new → IfErr result (λ e.
         StoppedAt network.old.world (map event_view events.now) e.0 e.1 network.new.world) }
     ensures store { OnOk result (network.new.failures ≡ network.old.failures)
         × IfErr result (λ e. SaysOneFailed e.1 network.old.failures network.new.failures) }
-    ensures headline { IsTrue network.new.answers →
+    ensures headline { AllAnswer network.new →
         Headline x12 network.old.world network.new.world
         × ((more : List Happening) →
         Headline x12 network.new.world (run_so x12 more network.new.world)) }
-    ensures refines { IsTrue network.new.answers →
+    ensures refines { AllAnswer network.new →
         OfBoth (AlwaysFollows x12) network.old.world network.new.world }
-    ensures outsiders { IsTrue network.new.answers → OfBoth
+    ensures outsiders { AllAnswer network.new → OfBoth
         (Onward x12 (OutsidersMoveNothing x12)) network.old.world network.new.world }
-    ensures facts { IsTrue network.new.answers → OfBoth
+    ensures facts { AllAnswer network.new → OfBoth
         (Onward x12 (ReachedFacts x12)) network.old.world network.new.world }
 {
     network.run(events)

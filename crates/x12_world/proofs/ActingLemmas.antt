@@ -1,6 +1,9 @@
 -- What a node did at what it was asked is what the event makes of the network.
-use Rattle.std.specs.Prelude.{◌≡◌, suc, List, ◌++◌, true, Option, Some, None, is_none, option_and_then, refl, IsTrue}
+use Rattle.std.specs.Prelude.{◌≡◌, ◌≤◌, ℕ, suc, List, ◌++◌, true, false, Bool, ◌&&◌, length, Option, Some, None, is_some, option_and_then, refl, IsTrue, Vec}
 use mathlib.Core.Path.{sym, ap, subst, ◌∙◌}
+use mathlib.Core.Logic.{inl, inr}
+use native.Mathlib.Omega.{arith}
+use Rattle.std.proofs.lemmas.Bool.Decides.{eqb_tells}
 use Rattle.std.specs.Result.{IsErrAnd}
 use Rattle.std.specs.Prelude.{Result, Ok, Err, IfErr}
 use Rattle.std.proofs.lemmas.Bool.{and_parts, and_from}
@@ -10,23 +13,28 @@ use Rattle.x12_core.specs.Ask.{does_at, node_meant, refusal_of_ask}
 use Rattle.x12_core.specs.declared.fault.CoreFault.{CoreFault}
 use Rattle.x12_core.specs.declared.fault.CoreFault.TheVariants as code
 use Rattle.x12_core.specs.Effect.{Effect}
-use Rattle.x12_core.specs.Node.{Node}
+use Rattle.x12_core.specs.Node.{Node, second_hub_node}
 use Rattle.x12_core.specs.NodeRefusal.{NodeRefusal}
 use Rattle.x12_core.specs.Packet.{Packet}
 use Rattle.x12_world.specs.declared.refused.Refused.{Refused}
 use Rattle.x12_world.specs.RefusedNumber.{refused_by_core}
 use Rattle.x12_world.specs.Asks.{IsAsked, IsAskedInVain}
 use Rattle.x12_world.specs.declared.hubs.Hubs.{Hubs as CodeHubs}
-use Rattle.x12_world.specs.Nodes.{Nodes, node_at, site_of, with_node}
+use Rattle.x12_world.specs.Nodes.{Nodes, is_hub_number, node_at, site_of, with_node}
 use Rattle.x12_world.specs.Effect.{Asked, asked_by, after_asked, after_effect, effect_at}
 use Rattle.x12_world.specs.EventRefusal.{EventRefusal, has_nodes, is_there, may_be_asked, network_refusal, node_refusal, or_of_node}
 use Rattle.x12_world.specs.Packet.{named}
 use Rattle.x12_world.specs.Refusing.{IsNetworkRefusal}
-use Rattle.x12_world.specs.Running.{all_answer, hubs_answer, nodes_answer}
+use Rattle.x12_world.specs.Running.{AskedAnswers, AnswersIfStation, all_answer, answers_at, asked_answers, hub_answers, nodes_answer, second_answers, station_answers_at, world_of}
+use Rattle.x12_world.specs.Runs.{running}
+use Rattle.x12_world.specs.View.{held_view}
+use Rattle.std.specs.Global.{Global}
+use Rattle.x12_core.specs.declared.packet.Packet.{Packet as CodePacket}
 use Rattle.x12_world.specs.Taking.{IsTaken}
 use Rattle.x12_world.specs.World.{World, Event}
+use Rattle.x12_world.proofs.AnswerLemmas.{founders_parts, number_of_hub, number_of_station}
 use Rattle.x12_world.proofs.KeyLemmas.{false_true}
-use Rattle.x12_world.proofs.RefusalLemmas.{nodes_there, packet_known}
+use Rattle.x12_world.proofs.RefusalLemmas.{nodes_there}
 use Rattle.x12_world.proofs.TakenLemmas.{did_empty}
 
 both_none : (a : Option EventRefusal) (b : Option NodeRefusal) → a ≡ None → b ≡ None → or_of_node a b ≡ None
@@ -62,17 +70,49 @@ refused w e a code.Memory is empty asked = empty
 refused w e a code.WrongKind is empty asked =
     absurd (false_true (sym asked.why ∙ sym (ap (may_be_asked a.node a.ask) asked.is) ∙ fits_there w e a is empty))
 
-pub someone_asked : {A : Type 0} → (w : World) (e : Event) → asked_by w.packets e ≡ None → network_refusal x12 w e ≡ None → A
-someone_asked w e none empty = absurd (false_true (sym (packet_known x12 w e empty) ∙ ap is_none none))
-
-pub hubs_answered : {H R : Type 0} → (h : CodeHubs H) (ss : List (StationView R)) → IsTrue (nodes_answer h ss) → IsTrue (hubs_answer h)
-hubs_answered h ss e = (and_parts (hubs_answer h) (all_answer ss) e).0
-
+-- what all records answer: those of the hubs, and those of the stations
 pub stations_answer : {H R : Type 0} → (h : CodeHubs H) (ss : List (StationView R)) → IsTrue (nodes_answer h ss) → IsTrue (all_answer ss)
-stations_answer h ss e = (and_parts (hubs_answer h) (all_answer ss) e).1
+stations_answer h ss e = (and_parts (h.first.answers && second_answers h.second) (all_answer ss) (sym (founders_parts h.first h.second ss) ∙ e)).1
 
-pub all_answer_so : {H R : Type 0} → (h : CodeHubs H) (ss : List (StationView R)) → IsTrue (hubs_answer h) → IsTrue (all_answer ss) → IsTrue (nodes_answer h ss)
-all_answer_so h ss a b = and_from (hubs_answer h) (all_answer ss) a b
+-- the same hubs, beside stations that all answer
+pub all_answer_so : {H R : Type 0} → (h : CodeHubs H) (ss rs : List (StationView R)) → IsTrue (nodes_answer h rs) → IsTrue (all_answer ss) → IsTrue (nodes_answer h ss)
+all_answer_so h ss rs e b =
+    let hubs = h.first.answers && second_answers h.second in
+    founders_parts h.first h.second ss ∙ and_from hubs (all_answer ss) (and_parts hubs (all_answer rs) (sym (founders_parts h.first h.second rs) ∙ e)).0 b
+
+-- the records of the node that is asked answer: a hub's, or a station's
+pub hub_so : {H R : Type 0} → (hubs new : CodeHubs H) (ss : List (StationView R)) (held : List (Vec CodePacket Global)) (e : Event) (a : Asked) → asked_by (held_view held) e ≡ Some a
+    → is_some new.second ≡ is_some hubs.second → is_hub_number (is_some hubs.second) a.node ≡ true → AskedAnswers (world_of hubs ss held) e (running new ss held)
+    → (i : ℕ) → i ≡ a.node → IsTrue (hub_answers new i)
+hub_so hubs new ss held e a is second tells answers i at =
+    let asked = subst (λ o. IsTrue (asked_answers (running new ss held) o)) is answers in
+    subst (λ k. IsTrue (hub_answers new k)) (sym at) (sym (number_of_hub new ss a.node new.second (ap (λ b. is_hub_number b a.node) second ∙ tells)) ∙ asked)
+
+pub station_so : {H R : Type 0} → (hubs : CodeHubs H) (ss new : List (StationView R)) (held : List (Vec CodePacket Global)) (e : Event) (a : Asked) → asked_by (held_view held) e ≡ Some a
+    → is_hub_number (is_some hubs.second) a.node ≡ false → 1 ≤ a.node → a.node ≤ length new → AskedAnswers (world_of hubs ss held) e (running hubs new held)
+    → (i : ℕ) → i ≡ a.node → IsTrue (station_answers_at new i)
+station_so hubs ss new held e a is isnt low high answers i at =
+    let asked = subst (λ o. IsTrue (asked_answers (running hubs new held) o)) is answers in
+    subst (λ k. IsTrue (station_answers_at new k)) (sym at) (sym (number_of_station hubs new a.node hubs.second isnt low high) ∙ asked)
+
+-- a number of a station is no hub's
+station_number_is : (second : Bool) (i : ℕ) → 1 ≤ i → i ≤ 16 → is_hub_number second i ≡ false
+station_number_is second i low high = elim (eqb_tells i 0) [
+  | inl zero_is ↦ let e = zero_is.1 in absurd (omega (arith, low, e))
+  | inr apart ↦ elim (eqb_tells i second_hub_node) [
+    | inl same ↦ let e = same.1 in absurd (omega (arith, high, e))
+    | inr other ↦ rw (apart.0, other.0) (never second)
+  ]
+]
+  where
+    never : (b : Bool) → (b && false) ≡ false
+    never true = refl
+    never false = refl
+
+pub station_by_number : {H R : Type 0} → (hubs : CodeHubs H) (ss new : List (StationView R)) (held : List (Vec CodePacket Global)) (i : ℕ) → length ss ≤ 16 → length new ≡ length ss
+    → IsTrue (answers_at (running hubs new held) i) → AnswersIfStation ss new i
+station_by_number hubs ss new held i few same answers low high =
+    sym (number_of_station hubs new i hubs.second (station_number_is (is_some hubs.second) i low (omega (arith, few, high))) low (omega (arith, same, high))) ∙ answers
 
 -- a fault that a core gave, as the network says it
 pub told_so : {A : Type 0} (r : Result A Refused) (fault : CoreFault) (P : Refused → Type 0) → IsErrAnd r (λ e. e ≡ refused_by_core fault) → P (refused_by_core fault) → IfErr r P

@@ -1,10 +1,10 @@
 -- A station that is asked stays as it is, and so does its network.
-use Rattle.std.proofs.Common.{◌≡◌, ℕ, zero, suc, ◌+◌, ◌<◌, ◌≤◌, List, [], ◌∷◌, Bool, true, Option, Some, None, Result, Ok, Err, IsTrue, IfErr, Vec, length, set, drop, drop-cons, get_or, find, flat_map, slice_get, is_some, refl, ap, sym, subst, ◌∙◌, arith}
+use Rattle.std.proofs.Common.{◌≡◌, ℕ, zero, suc, ◌+◌, ◌-◌, if◌then◌else◌, ◌<◌, ◌≤◌, List, [], ◌∷◌, Bool, true, false, Option, Some, None, Result, Ok, Err, IsTrue, IfErr, Vec, length, set, drop, drop-cons, get_or, find, flat_map, slice_get, is_some, refl, ap, sym, subst, ◌∙◌, arith}
 use Rattle.std.specs.Global.{Global}
 use Rattle.std.specs.Result.{IsErrAnd}
 use Rattle.std.proofs.lemmas.Bool.{and_parts, and_from}
 use Rattle.std.proofs.Math.Seq.{map-set_same}
-use Rattle.std.proofs.lemmas.List.{length-set}
+use Rattle.std.proofs.lemmas.List.{length-map, length-set}
 use Rattle.std.proofs.lemmas.Option.{slice_get-map, slice_get-get_or}
 use Rattle.x12_envelopes.specs.declared.party.Party.{Party}
 use Rattle.x12_judge.specs.Agreement.{is_same_party}
@@ -17,16 +17,20 @@ use Rattle.x12_core.specs.declared.packet.Packet.{Packet}
 use Rattle.x12_core.specs.declared.fault.NodeFault.TheVariants.{OfStation}
 use Rattle.x12_world.specs.declared.refused.Refused.{Refused}
 use Rattle.x12_world.specs.declared.refused.Refused.TheVariants.{Node, NoSuchNode}
-use Rattle.x12_world.specs.Asking.{IsUnanswered, states_of}
+use Rattle.x12_world.specs.Asking.{IsUnanswered, PartyAnswers, states_of}
 use Rattle.x12_world.specs.Audit.{station_in, station_named}
 use Rattle.x12_core.specs.declared.submission.Listed.{Listed}
 use Rattle.x12_world.specs.Reach.{IsReachable}
 use Rattle.x12_world.specs.Submission.{AreListed}
 use Rattle.x12_world.specs.declared.hubs.Hubs.{Hubs as CodeHubs}
 use Rattle.x12_world.specs.Nodes.{node_at}
-use Rattle.x12_world.specs.Running.{HasNumbers, Hubs, all_answer, hubs_answer, hubs_in, beside, nodes_answer, nodes_of, station_nodes, world_of}
-use Rattle.x12_world.specs.Runs.{Runs}
-use Rattle.x12_world.proofs.RunningLemmas.{below, listed_beside}
+use Rattle.x12_world.specs.Running.{HasNumbers, Hubs, NoneWonBack, all_answer, answering, hubs_in, beside, nodes_answer, nodes_of, station_answers, station_nodes, world_of}
+use Rattle.x12_world.specs.Runs.{Runs, running}
+use Rattle.x12_world.proofs.RunningLemmas.{below, few_numbers, listed_beside}
+use Rattle.x12_world.proofs.ActingLemmas.{all_answer_so, station_by_number, stations_answer}
+use Rattle.x12_world.proofs.AnswerLemmas.{set_answers, won_among, won_stations}
+use Rattle.x12_judge.proofs.Shelf.{same_party}
+use Rattle.x12_numbers.proofs.Shelf.{some_inj}
 use Rattle.x12_core.specs.Node.{IsStation}
 
 -- what stands at a place
@@ -71,6 +75,20 @@ module _ {H R : Type 0} (h : CodeHubs H) (ss seen : List (StationView R)) (same 
       → IsUnanswered (is_some (station_named (world_of h ss held) party)) e
   none_found e why = subst (IsUnanswered (is_some (station_named (world_of h ss held) party))) (sym why.0) (ap is_some (station_is None why.1))
 
+-- what was found passes
+found_passes : (p : Station → Bool) (xs : List Station) (x : Station) → find p xs ≡ Some x → p x ≡ true
+found_passes p [] x e = absurd cc
+found_passes p (y ∷ xs) x e = by (found_passes p xs x) (p y) refl e
+  where
+    by : (find p xs ≡ Some x → p x ≡ true) → (t : Bool) → p y ≡ t → (if t then Some y else find p xs) ≡ Some x → p x ≡ true
+    by later true is e = subst (λ z. p z ≡ true) (some_inj e) is
+    by later false is e = later e
+
+pub has_party : {R : Type 0} → (ss seen : List (StationView R)) (same : seen ≡ ss) (party : Party) (place : ℕ) (s : StationView R) → place < length seen → s ≡ get_or ss place s
+    → find (λ s. is_same_party s.me party) (states_of seen) ≡ slice_get (states_of seen) place → is_same_party s.state.me party ≡ true
+has_party ss seen same party place s within is found =
+    found_passes (λ s. is_same_party s.me party) (states_of seen) s.state (found ∙ state_there seen place s (is ∙ ap (λ rs. get_or rs place s) (sym same)) within)
+
 -- one station was asked
 module _ {R : Type 0} (old new : StationView R) (still : IsTrue new.answers → IsTrue old.answers) where
   pub answers_new : (ss : List (StationView R)) (i : ℕ) → i < length ss → IsTrue (all_answer (set ss i new)) → IsTrue new.answers
@@ -89,17 +107,31 @@ module _ {R : Type 0} (old new : StationView R) (still : IsTrue new.answers → 
 
 module _ {H R : Type 0} (h : CodeHubs H) (ss : List (StationView R)) (held : List (Vec Packet Global)) (i : ℕ) (old new : StationView R) (within : i < length ss) (is : old ≡ get_or ss i old)
     (still : IsTrue new.answers → IsTrue old.answers) (same : IsTrue new.answers → new.state ≡ old.state) where
-  pub asked_answers : IsTrue (nodes_answer h (set ss i new)) → IsTrue new.answers
-  asked_answers answers = answers_new old new still ss i within (and_parts (hubs_answer h) (all_answer (set ss i new)) answers).1
+  pub still_answers : IsTrue (nodes_answer h (set ss i new)) → IsTrue new.answers
+  still_answers answers = answers_new old new still ss i within (stations_answer h (set ss i new) answers)
+
+  -- none is won back
+  pub won : NoneWonBack (answering h ss) (answering h (set ss i new))
+  won = won_stations h (station_answers ss) (station_answers (set ss i new))
+      (length-map ss (λ (s : StationView R). s.answers) ∙ sym (length-set ss i new) ∙ sym (length-map (set ss i new) (λ (s : StationView R). s.answers)))
+      (won_among ss i old new within is still)
+
+  -- the records of the station that has a party
+  pub by_party : (party : Party) → length ss ≤ 16 → is_same_party old.state.me party ≡ true → PartyAnswers (world_of h ss held) party (running h (set ss i new) held) → IsTrue new.answers
+  by_party party few named answers =
+      let there = node_there (hubs_in h) ss (i + 1) i old (few_numbers h ss few) refl within is in
+      let low : 1 ≤ i + 1 = omega arith in
+      let high : i + 1 ≤ length ss = omega (arith, within) in
+      let asked = station_by_number h ss (set ss i new) held (i + 1) few (length-set ss i new) (answers (i + 1) old.state there (same_party old.state.me party named)) low high in
+      let back : i + 1 - 1 ≡ i = omega arith in
+      sym (set_answers ss i new within) ∙ subst (λ k. IsTrue (get_or (station_answers (set ss i new)) k true)) back asked
 
   pub answered : IsTrue (nodes_answer h (set ss i new)) → IsTrue (nodes_answer h ss)
-  answered answers =
-      let parts = and_parts (hubs_answer h) (all_answer (set ss i new)) answers in
-      and_from (hubs_answer h) (all_answer ss) parts.0 (answers_old old new still ss i within is parts.1)
+  answered answers = all_answer_so h ss (set ss i new) answers (answers_old old new still ss i within is (stations_answer h (set ss i new) answers))
 
-  pub stays : IsTrue (nodes_answer h (set ss i new)) → world_of h (set ss i new) held ≡ world_of h ss held
+  pub stays : IsTrue new.answers → world_of h (set ss i new) held ≡ world_of h ss held
   stays answers =
-      let state = same (asked_answers answers) in
+      let state = same answers in
       let nodes : station_nodes (set ss i new) ≡ station_nodes ss =
       map-set_same (λ (s : StationView _). IsStation s.state) ss i new old (ap IsStation state ∙ ap (λ (s : StationView _). IsStation s.state) is) in
       ap (λ ns. record (world_of h ss held) { nodes = beside (hubs_in h) ns }) nodes
@@ -107,9 +139,9 @@ module _ {H R : Type 0} (h : CodeHubs H) (ss : List (StationView R)) (held : Lis
   pub stays_reached : (xs : List Listed) → Runs h ss held xs → Runs h (set ss i new) held xs
   stays_reached xs was = record {
     few = subst (λ n. n ≤ 16) (sym (length-set ss i new)) was.few;
-    reached = λ answers. subst (IsReachable x12) (sym (stays answers)) (was.reached (answered answers));
+    reached = λ answers. subst (IsReachable x12) (sym (stays (still_answers answers))) (was.reached (answered answers));
     listed = λ answers.
-        let states : states_of (set ss i new) ≡ states_of ss = map-set_same (λ (s : StationView _). s.state) ss i new old (same (asked_answers answers) ∙ ap (λ (s : StationView _). s.state) is) in
+        let states : states_of (set ss i new) ≡ states_of ss = map-set_same (λ (s : StationView _). s.state) ss i new old (same (still_answers answers) ∙ ap (λ (s : StationView _). s.state) is) in
         subst (λ ts. AreListed ts xs) (sym states) (was.listed (answered answers));
   }
 

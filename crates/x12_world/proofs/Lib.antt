@@ -30,6 +30,7 @@ mod ReachLemmas
 pub mod PacketLemmas
 pub mod RunningLemmas
 pub mod FailingLemmas
+pub mod AnswerLemmas
 pub mod ActingLemmas
 mod RanLemmas
 pub mod FoundingLemmas

@@ -76,9 +76,3 @@ pub nodes_there : (p : Profile) (w : World) (e : Event) → network_refusal p w 
 nodes_there p w e empty =
     let room = row_apart (is_at_end w) _ _ empty in
     not-false (has_nodes w (asked_by w.packets e)) (row_apart (not (has_nodes w (asked_by w.packets e))) _ _ room.1).0
-
-pub packet_known : (p : Profile) (w : World) (e : Event) → network_refusal p w e ≡ None → is_none (asked_by w.packets e) ≡ false
-packet_known p w e empty =
-    let room = row_apart (is_at_end w) _ _ empty in
-    let nodes = row_apart (not (has_nodes w (asked_by w.packets e))) _ _ room.1 in
-    (row_apart (is_none (asked_by w.packets e)) _ _ nodes.1).0

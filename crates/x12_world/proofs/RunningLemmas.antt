@@ -34,7 +34,7 @@ use Rattle.x12_world.specs.declared.hubs.Hubs.{Hubs as CodeHubs}
 use Rattle.x12_world.specs.Running.{HasNumbers, Hubs, hubs_in, all_answer, beside, nodes_of, station_nodes}
 use Rattle.x12_world.specs.EventRefusal.{is_spoken_for, may_be_asked}
 use Rattle.x12_core.specs.declared.packet.Site.{Site}
-use Rattle.x12_core.specs.Node.{Node, IsHub, IsStation, is_station, is_hub, party_of_node, second_hub_node}
+use Rattle.x12_core.specs.Node.{Node, IsHub, IsStation, is_station, party_of_node, second_hub_node}
 use Rattle.x12_world.specs.World.{World, Outside, parties_of}
 use Rattle.x12_world.proofs.KeyLemmas.{false_true}
 
@@ -177,14 +177,6 @@ module _ {R : Type 0} (h : Hubs) (ss : List (StationView R)) (node : ℕ) (numbe
       ]
 
   -- the tests of a number
-  pub hub_test : is_hub_number (is_some h.second) node ≡ is_hub (node_at (nodes_of h ss) node)
-  hub_test = by where_is
-    where
-      by : At h ss node → is_hub_number (is_some h.second) node ≡ is_hub (node_at (nodes_of h ss) node)
-      by (at_hub k tells at) = tells ∙ sym (ap is_hub at)
-      by (at_station s isnt low high at) = isnt ∙ sym (ap is_hub at)
-      by (at_none isnt past at) = isnt ∙ sym (ap is_hub at)
-
   pub station_test : (node ≡ 0 → ⊥) → nat_le node (length ss) ≡ is_station (node_at (nodes_of h ss) node)
   station_test some = by where_is
     where
@@ -260,15 +252,6 @@ module _ {R : Type 0} (h : Hubs) (ss : List (StationView R)) (node : ℕ) (numbe
       by (at_hub k tells at) = absurd (false_true (sym isnt ∙ tells))
       by (at_station s also low high at) = (low, high)
       by (at_none also past at) = absurd (false_true (sym (ap (may_be_asked node a) at) ∙ asked))
-
-  -- and what the tests tell of it
-  pub station_number : is_station (node_at (nodes_of h ss) node) ≡ true → (1 ≤ node) × (node ≤ length ss)
-  station_number there = by where_is
-    where
-      by : At h ss node → (1 ≤ node) × (node ≤ length ss)
-      by (at_hub k tells at) = absurd (false_true (sym (ap is_station at) ∙ there))
-      by (at_station s isnt low high at) = (low, high)
-      by (at_none isnt past at) = absurd (false_true (sym (ap is_station at) ∙ there))
 
 -- the code's hubs have a second one where the definition's do
 pub second_kept : {H : Type 0} → (h : CodeHubs H) (node : ℕ) → is_hub_number (is_some h.second) node ≡ is_hub_number (is_some (hubs_in h).second) node

@@ -20,7 +20,7 @@ use Rattle.x12_world.specs.Running.{all_answer, beside, hubs_in, nodes_answer, s
 use Rattle.x12_world.specs.Runs.{Runs}
 use Rattle.x12_world.specs.Submission.{AreListed, NumbersRise}
 use Rattle.x12_core.specs.Node.{IsStation}
-use Rattle.x12_world.proofs.ActingLemmas.{all_answer_so, hubs_answered, stations_answer}
+use Rattle.x12_world.proofs.ActingLemmas.{all_answer_so, stations_answer}
 use Rattle.x12_world.proofs.AskingLemmas.{stations_are}
 use Rattle.x12_world.proofs.RunningLemmas.{below, few_numbers, if_err, listed_beside}
 
@@ -42,7 +42,7 @@ place_at (s ∷ ss) (suc k) d within = place_at ss k d (omega (arith, within))
 module _ {H R : Type 0} (h : CodeHubs H) (ss rs : List (StationView R)) (held : List (Vec Packet Global)) (xs : List Listed) (was : Runs h ss held xs)
     (still : IsTrue (all_answer rs) → IsTrue (all_answer ss)) (same : IsTrue (all_answer rs) → states_of rs ≡ states_of ss) (len : length rs ≡ length ss) where
   pub was_so : IsTrue (nodes_answer h rs) → IsTrue (nodes_answer h ss)
-  was_so answers = all_answer_so h ss (hubs_answered h rs answers) (still (stations_answer h rs answers))
+  was_so answers = all_answer_so h ss rs answers (still (stations_answer h rs answers))
 
   pub is_same : IsTrue (nodes_answer h rs) → world_of h rs held ≡ world_of h ss held
   is_same answers = world_same h ss rs held (same (stations_answer h rs answers))

@@ -1,5 +1,5 @@
 -- What the station of a node says, and why a network says nothing.
-use Rattle.std.specs.Prelude.{◌≡◌, ℕ, List, Bool, true, false, Option, Some, map}
+use Rattle.std.specs.Prelude.{◌≡◌, ℕ, List, Bool, true, false, IsTrue, Option, Some, map}
 use Rattle.x12_acks.specs.Submission.{TransactionSetKey}
 use Rattle.x12_outbound.specs.declared.fate.Fate.{Fate}
 use Rattle.x12_profile.specs.X12.{x12}
@@ -13,7 +13,9 @@ use Rattle.x12_core.specs.declared.fault.NodeFault.TheVariants.{OfStation, OfHub
 use Rattle.x12_world.specs.Audit.{station_named}
 use Rattle.x12_core.specs.Node.{IsStation, is_station}
 use Rattle.x12_world.specs.Nodes.{Nodes, node_at}
+use Rattle.x12_world.specs.Running.{Running, answers_at}
 use Rattle.x12_world.specs.World.{World}
+use Rattle.x12_envelopes.specs.declared.party.Party.{Party}
 
 -- node i is a station, of which this holds
 abbrev pub IsSaidAt : Nodes → ℕ → (Station → Type 0) → Type 0
@@ -22,6 +24,11 @@ IsSaidAt nodes i says = (s : Station) × (node_at nodes i ≡ Some (IsStation s)
 -- the states of stations
 abbrev pub states_of : {R : Type 0} → List (StationView R) → List Station
 states_of ss = map (λ s. s.state) ss
+
+-- the records of the station that had this party in a world answer
+abbrev pub PartyAnswers : World → Party → Running → Type 0
+PartyAnswers w party r = (i : ℕ) (s : Station) → node_at w.nodes i ≡ Some (IsStation s)
+    → s.me ≡ party → IsTrue (answers_at r i)
 
 -- the station of a key's sender holds its set as this
 abbrev pub HoldsByKey : World → TransactionSetKey → Option Fate → Type 0

@@ -8,8 +8,18 @@ use Rattle.x12_station.specs.Seen.{StationView}
 use Rattle.x12_world.specs.Asking.{states_of}
 use Rattle.x12_world.specs.declared.hubs.Hubs.{Hubs as CodeHubs}
 use Rattle.x12_world.specs.Reach.{IsReachable}
-use Rattle.x12_world.specs.Running.{nodes_answer, world_of}
+use Rattle.x12_world.specs.Failing.{failures_of}
+use Rattle.x12_world.specs.Running.{Running, answering, nodes_answer, world_of}
 use Rattle.x12_world.specs.Submission.{AreListed}
+
+-- what is seen of a network with these hubs, stations and packets
+abbrev pub running : {H R : Type 0} → CodeHubs H → List (StationView R)
+    → List (Vec CodePacket Global) → Running
+running h ss held = record {
+  world = world_of h ss held;
+  answers = answering h ss;
+  failures = failures_of h ss;
+}
 
 -- there are at most 16 stations; and while all records answer, a network reached this world, and what
 -- its stations submitted is listed

@@ -7,7 +7,9 @@ ghost use Rattle.x12_world.specs.EventRefusal.{network_refusal};
 ghost use Rattle.x12_world.specs.EventView.{event_view};
 ghost use Rattle.x12_world.specs.Failing.{failures_of, CountsOne};
 ghost use Rattle.x12_world.specs.Refusing.{IsNetworkRefusal};
-ghost use Rattle.x12_world.specs.Running.{hubs_in, nodes_answer, nodes_of, world_of};
+ghost use Rattle.x12_world.specs.Running.{AskedAnswers, NoneWonBack, answering, hubs_in};
+ghost use Rattle.x12_world.specs.Running.{nodes_answer, nodes_of, world_of};
+ghost use Rattle.x12_world.specs.Runs.{running};
 ghost use Rattle.x12_core.specs.Sends.{sends_view};
 ghost use Rattle.x12_core.specs.Submission.{listed};
 ghost use Rattle.x12_world.specs.Submission.{ListsMore};
@@ -36,18 +38,23 @@ pub(crate) fn act<R: Records, H: HubRecords>(
 ) -> Result<Sends, Refused>
     requires admitted { (vec_len stations.old ≤ 16) × (network_refusal x12
         (world_of hubs.old stations.old.items held.now.items) (event_view event.now) ≡ None) }
-    ensures never_won_back { IsTrue (nodes_answer hubs.new stations.new.items) →
-        IsTrue (nodes_answer hubs.old stations.old.items) }
-    ensures took { IsTrue (nodes_answer hubs.new stations.new.items) → IfOk result (λ sends. IsTaken
+    ensures never_won_back { NoneWonBack
+        (answering hubs.old stations.old.items) (answering hubs.new stations.new.items) }
+    ensures took { AskedAnswers (world_of hubs.old stations.old.items held.now.items)
+        (event_view event.now) (running hubs.new stations.new.items held.now.items) →
+        IfOk result (λ sends. IsTaken
         (world_of hubs.old stations.old.items held.now.items) (event_view event.now)
         (nodes_of (hubs_in hubs.new) stations.new.items) (sends_view sends)) }
     ensures submits { IsTrue (nodes_answer hubs.new stations.new.items) → IfOk result (λ sends.
         ListsMore (states_of stations.old.items) (states_of stations.new.items) (listed sends)) }
-    ensures refused { IsTrue (nodes_answer hubs.new stations.new.items) →
+    ensures refused { AskedAnswers (world_of hubs.old stations.old.items held.now.items)
+        (event_view event.now) (running hubs.new stations.new.items held.now.items) →
         IfErr result (IsNetworkRefusal
         (world_of hubs.old stations.old.items held.now.items) (event_view event.now)) }
-    ensures unchanged { IsTrue (nodes_answer hubs.new stations.new.items) → OnErr result
-        (nodes_of (hubs_in hubs.new) stations.new.items ≡ nodes_of (hubs_in hubs.old) stations.old.items) }
+    ensures unchanged { AskedAnswers (world_of hubs.old stations.old.items held.now.items)
+        (event_view event.now) (running hubs.new stations.new.items held.now.items) → OnErr result
+        (nodes_of (hubs_in hubs.new) stations.new.items
+        ≡ nodes_of (hubs_in hubs.old) stations.old.items) }
     ensures store { CountsOne result
         (failures_of hubs.old stations.old.items) (failures_of hubs.new stations.new.items) }
     ensures len { length stations.new.items ≡ length stations.old.items }

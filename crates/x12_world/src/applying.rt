@@ -9,7 +9,9 @@ ghost use Rattle.x12_world.specs.Outcome.{told_packet};
 ghost use Rattle.x12_world.specs.Packet.{named};
 ghost use Rattle.x12_world.specs.Ran.{Ran, outcome_view};
 ghost use Rattle.x12_world.specs.Refusing.{IsNetworkRefusal};
-ghost use Rattle.x12_world.specs.Running.{nodes_answer, world_of};
+ghost use Rattle.x12_world.specs.Running.{AskedAnswers, NoneWonBack, answering, nodes_answer};
+ghost use Rattle.x12_world.specs.Running.{world_of};
+ghost use Rattle.x12_world.specs.Runs.{running};
 ghost use Rattle.x12_core.specs.Sends.{sends_view};
 ghost use Rattle.x12_world.specs.Submission.{AreListed};
 ghost use Rattle.x12_core.specs.View.{packet_view};
@@ -87,16 +89,20 @@ pub(crate) fn take<R: Records, H: HubRecords>(
     event: &Event,
 ) -> Result<Outcome, Refused>
     requires few { vec_len stations.old ≤ 16 }
-    ensures never_won_back { IsTrue (nodes_answer hubs.new stations.new.items) →
-        IsTrue (nodes_answer hubs.old stations.old.items) }
-    ensures ran { IsTrue (nodes_answer hubs.new stations.new.items) → IfOk result (λ o.
-        Ran (world_of hubs.old stations.old.items held.old.items) (event_view event.now)
+    ensures never_won_back { NoneWonBack
+        (answering hubs.old stations.old.items) (answering hubs.new stations.new.items) }
+    ensures ran { AskedAnswers (world_of hubs.old stations.old.items held.old.items)
+        (event_view event.now) (running hubs.new stations.new.items held.new.items) →
+        IfOk result (λ o. Ran
+        (world_of hubs.old stations.old.items held.old.items) (event_view event.now)
         (outcome_view o) (world_of hubs.new stations.new.items held.new.items)) }
-    ensures refused { IsTrue (nodes_answer hubs.new stations.new.items) →
+    ensures refused { AskedAnswers (world_of hubs.old stations.old.items held.old.items)
+        (event_view event.now) (running hubs.new stations.new.items held.new.items) →
         IfErr result (IsNetworkRefusal
         (world_of hubs.old stations.old.items held.old.items) (event_view event.now)) }
-    ensures unchanged { IsTrue (nodes_answer hubs.new stations.new.items) → OnErr result
-        (world_of hubs.new stations.new.items held.new.items
+    ensures unchanged { AskedAnswers (world_of hubs.old stations.old.items held.old.items)
+        (event_view event.now) (running hubs.new stations.new.items held.new.items) →
+        OnErr result (world_of hubs.new stations.new.items held.new.items
         ≡ world_of hubs.old stations.old.items held.old.items) }
     ensures listed { IsTrue (nodes_answer hubs.new stations.new.items) →
         AreListed (states_of stations.old.items) submitted.old.items →

@@ -8,11 +8,12 @@ ghost use Rattle.x12_judge.specs.Agreement.{is_same_party};
 ghost use Rattle.x12_profile.specs.X12.{x12};
 ghost use Rattle.x12_station.specs.History.{postings};
 ghost use Rattle.x12_world.specs.declared.refused.Refused.TheVariants.{NoSuchNode};
-ghost use Rattle.x12_world.specs.Asking.{HoldsByKey, IsAskRefused, IsSaidAt, IsUnanswered};
+ghost use Rattle.x12_world.specs.Asking.{HoldsByKey, PartyAnswers, IsAskRefused, IsSaidAt, IsUnanswered};
 ghost use Rattle.x12_world.specs.Asking.{states_of};
 ghost use Rattle.x12_world.specs.Audit.{station_named};
 ghost use Rattle.x12_world.specs.Failing.{CountsOne, station_failures};
-ghost use Rattle.x12_world.specs.Running.{BesideAnyHubs, all_answer, station_nodes};
+ghost use Rattle.x12_world.specs.Running.{BesideAnyHubs, NoneWonBack, AnswersIfStation};
+ghost use Rattle.x12_world.specs.Running.{answers_at, station_answers, station_nodes};
 
 use crate::admitting::is_station;
 use crate::refused::Refused;
@@ -46,12 +47,11 @@ fn postings_at<R: Records>(
     stations: &mut Vec<Station<R>>,
     node: u16,
 ) -> Result<Vec<Posting>, Refused>
-    ensures never_won_back { IsTrue (all_answer stations.new.items) →
-        IsTrue (all_answer stations.old.items) }
-    ensures same { IsTrue (all_answer stations.new.items) →
+    ensures never_won_back { NoneWonBack (station_answers stations.old.items) (station_answers stations.new.items) }
+    ensures same { AnswersIfStation stations.old.items stations.new.items node →
         station_nodes stations.new.items ≡ station_nodes stations.old.items }
-    ensures postings { IsTrue (all_answer stations.new.items) → IfOk result (λ v.
-        BesideAnyHubs stations.old.items (λ nodes. IsSaidAt nodes node
+    ensures postings { AnswersIfStation stations.old.items stations.new.items node →
+        IfOk result (λ v. BesideAnyHubs stations.old.items (λ nodes. IsSaidAt nodes node
         (λ s. map posting_view v.items ≡ postings x12 s.items))) }
     ensures refused { IfErr result (λ r.
         BesideAnyHubs stations.old.items (λ nodes. IsAskRefused nodes node r)) }
@@ -89,9 +89,10 @@ impl<R: Records, H: HubRecords> World<R, H> {
     ///
     /// V4 where no station is of the key's sender; V3. The network stays as it is.
     pub fn fate(&mut self, key: &SetKey) -> Result<Option<Fate>, Refused>
-        ensures never_won_back { IsTrue self.new.answers → IsTrue self.old.answers }
-        ensures same { IsTrue self.new.answers → self.new.world ≡ self.old.world }
-        ensures fate { IsTrue self.new.answers →
+        ensures never_won_back { NoneWonBack self.old.answers self.new.answers }
+        ensures same { PartyAnswers self.old.world key.now.sender self.new →
+            self.new.world ≡ self.old.world }
+        ensures fate { PartyAnswers self.old.world key.now.sender self.new →
             IfOk result (HoldsByKey self.old.world (key_view key.now)) }
         ensures refused { IfErr result
             (IsUnanswered (is_some (station_named self.old.world key.now.sender))) }
@@ -106,9 +107,9 @@ impl<R: Records, H: HubRecords> World<R, H> {
     ///
     /// V4 where the node is no station; V3 where its records fail or miss memory.
     pub fn postings(&mut self, node: u16) -> Result<Vec<Posting>, Refused>
-        ensures never_won_back { IsTrue self.new.answers → IsTrue self.old.answers }
-        ensures same { IsTrue self.new.answers → self.new.world ≡ self.old.world }
-        ensures postings { IsTrue self.new.answers → IfOk result (λ v.
+        ensures never_won_back { NoneWonBack self.old.answers self.new.answers }
+        ensures same { IsTrue (answers_at self.new node) → self.new.world ≡ self.old.world }
+        ensures postings { IsTrue (answers_at self.new node) → IfOk result (λ v.
             IsSaidAt self.old.world.nodes node
             (λ s. map posting_view v.items ≡ postings x12 s.items)) }
         ensures refused { IfErr result (IsAskRefused self.old.world.nodes node) }

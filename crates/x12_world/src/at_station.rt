@@ -4,7 +4,8 @@ ghost use Rattle.std.specs.Prelude.{◌≡◌, ◌≤◌, IsTrue, IfOk, IfErr, O
 ghost use Rattle.x12_world.specs.Asking.{states_of};
 ghost use Rattle.x12_world.specs.Asks.{IsAsked, IsAskedInVain};
 ghost use Rattle.x12_world.specs.Failing.{station_failures, CountsAsked};
-ghost use Rattle.x12_world.specs.Running.{HasNumbers, Hubs, all_answer, nodes_of, station_nodes};
+ghost use Rattle.x12_world.specs.Running.{HasNumbers, Hubs, NoneWonBack, nodes_of};
+ghost use Rattle.x12_world.specs.Running.{station_answers, station_answers_at, station_nodes};
 ghost use Rattle.x12_core.specs.Sends.{sends_view};
 ghost use Rattle.x12_core.specs.Submission.{listed};
 ghost use Rattle.x12_core.specs.View.{ref_view};
@@ -22,17 +23,17 @@ pub(crate) fn at_station<R: Records>(
     ask: &AskRef<'_>,
 ) -> Result<Sends, CoreFault>
     requires there { (1 ≤ site.node) × (site.node ≤ vec_len stations.old) }
-    ensures never_won_back { IsTrue (all_answer stations.new.items) →
-        IsTrue (all_answer stations.old.items) }
-    ensures took { IsTrue (all_answer stations.new.items) → IfOk result (λ sends. (h : Hubs) →
-        HasNumbers h stations.old.items → IsAsked (ref_view ask.now) site
+    ensures never_won_back { NoneWonBack (station_answers stations.old.items) (station_answers stations.new.items) }
+    ensures took { IsTrue (station_answers_at stations.new.items site.node) →
+        IfOk result (λ sends. (h : Hubs) → HasNumbers h stations.old.items →
+        IsAsked (ref_view ask.now) site
         (nodes_of h stations.old.items) (nodes_of h stations.new.items) (sends_view sends)) }
-    ensures submits { IsTrue (all_answer stations.new.items) → IfOk result (λ sends.
-        ListsMore (states_of stations.old.items) (states_of stations.new.items) (listed sends)) }
-    ensures refused { IsTrue (all_answer stations.new.items) → IfErr result (λ r. (h : Hubs) →
-        HasNumbers h stations.old.items →
+    ensures submits { IsTrue (station_answers_at stations.new.items site.node) →
+        IfOk result (λ sends. ListsMore (states_of stations.old.items) (states_of stations.new.items) (listed sends)) }
+    ensures refused { IsTrue (station_answers_at stations.new.items site.node) →
+        IfErr result (λ r. (h : Hubs) → HasNumbers h stations.old.items →
         IsAskedInVain (ref_view ask.now) site.node (nodes_of h stations.old.items) r) }
-    ensures unchanged { IsTrue (all_answer stations.new.items) →
+    ensures unchanged { IsTrue (station_answers_at stations.new.items site.node) →
         OnErr result (station_nodes stations.new.items ≡ station_nodes stations.old.items) }
     ensures store { CountsAsked result
         (station_failures stations.old.items) (station_failures stations.new.items) }

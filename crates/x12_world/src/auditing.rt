@@ -16,7 +16,7 @@ ghost use Rattle.x12_world.specs.Asking.{states_of, IsMissed};
 ghost use Rattle.x12_world.specs.Audit.{audit, station_named};
 ghost use Rattle.x12_world.specs.Auditing.{audit_view, posted_bytes, found_under, held_under};
 ghost use Rattle.x12_world.specs.Auditing.{held_set_view, set_under, station_among, IsAuditAmong};
-ghost use Rattle.x12_world.specs.Running.{all_answer};
+ghost use Rattle.x12_world.specs.Running.{AllAnswer, all_answer};
 ghost use Rattle.x12_world.specs.Submission.{NumbersRise};
 
 use crate::asking::place_of;
@@ -211,9 +211,9 @@ impl<R: Records, H: HubRecords> World<R, H> {
     ///
     /// V5 and V3, where memory is missing or the records of a station fail.
     pub fn audit(&mut self, key: &SetKey) -> Result<Option<Audit>, Refused>
-        ensures never_won_back { IsTrue self.new.answers → IsTrue self.old.answers }
-        ensures same { IsTrue self.new.answers → self.new.world ≡ self.old.world }
-        ensures audit { IsTrue self.new.answers → IfOk result (λ o.
+        ensures never_won_back { AllAnswer self.new → AllAnswer self.old }
+        ensures same { AllAnswer self.new → self.new.world ≡ self.old.world }
+        ensures audit { AllAnswer self.new → IfOk result (λ o.
             option_map audit_view o ≡ audit x12 self.old.world (key_view key.now)) }
         ensures refused { IfErr result (λ r. IsMissed r
             × (is_some (station_named self.old.world key.now.sender) ≡ true)) }

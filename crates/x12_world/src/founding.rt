@@ -13,7 +13,8 @@ ghost use Rattle.x12_world.specs.Founding.{all_differ, home_among, parties, IsMe
 ghost use Rattle.x12_world.specs.Founding.{network_of, IsNewHub};
 ghost use Rattle.x12_world.specs.Reach.{IsReachable};
 ghost use Rattle.x12_world.specs.Run.{new_world};
-ghost use Rattle.x12_world.specs.Running.{all_answer, founders_answer, second_answers};
+ghost use Rattle.x12_world.specs.Running.{AllAnswer, all_answer, founders_answer, founders_answers};
+ghost use Rattle.x12_world.specs.Running.{second_answers};
 
 use crate::admitting::is_stations;
 use crate::hubs::Hubs;
@@ -215,10 +216,10 @@ impl<R: Records, H: HubRecords> World<R, H> {
         stations: Vec<Station<R>>,
     ) -> Result<World<R, H>, (Hub<H>, Option<Hub<H>>, Vec<Station<R>>, Refused)>
         ensures answers { IfOk result (λ w.
-            w.answers ≡ founders_answer hub second stations.items) }
-        ensures new { IfOk result (λ w. IsTrue w.answers → w.world
+            w.answers ≡ founders_answers hub second stations.items) }
+        ensures new { IfOk result (λ w. AllAnswer w → w.world
             ≡ new_world (network_of hub.hub (option_map (λ k. k.hub) second) stations.items)) }
-        ensures reached { IfOk result (λ w. IsTrue w.answers → IsReachable x12 w.world) }
+        ensures reached { IfOk result (λ w. AllAnswer w → IsReachable x12 w.world) }
         ensures network { IsTrue (founders_answer hub second stations.items) → OnOk result
             (MakesNetwork hub.hub (option_map (λ k. k.hub) second) stations.items) }
 

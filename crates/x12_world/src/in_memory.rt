@@ -8,7 +8,7 @@ ghost use Rattle.x12_world.specs.Loss.{Happening, run_so};
 ghost use Rattle.x12_world.specs.Outsider.{OutsidersMoveNothing};
 ghost use Rattle.x12_world.specs.Ran.{RanAll, StoppedAt, outcome_view};
 ghost use Rattle.x12_world.specs.Reach.{Onward, AlwaysFollows, OfBoth, ReachedFacts};
-ghost use Rattle.x12_world.specs.Running.{all_answer};
+ghost use Rattle.x12_world.specs.Running.{AllAnswer, all_answer};
 
 use crate::event::Event;
 use crate::outcome::Outcome;
@@ -38,7 +38,7 @@ fn stations_answer(stations: &[Station<MemoryRecords>])
 
 /// All records of the network answer.
 fn network_answers(network: &MemoryWorld)
-    ensures { IsTrue network.now.answers }
+    ensures { AllAnswer network.now }
 {
     hub_answers(&network.hubs.first);
     if let Some(second) = &network.hubs.second {

@@ -11,7 +11,7 @@ ghost use Rattle.x12_world.specs.Audit.{keys_of};
 ghost use Rattle.x12_world.specs.Listing.{keys_of_sets, sets_of_stations, outgoing_under, AreKeysOf};
 ghost use Rattle.x12_world.specs.Listing.{AreSetsOf, KeysRise};
 ghost use Rattle.x12_world.specs.Placing.{outgoing_view};
-ghost use Rattle.x12_world.specs.Running.{all_answer};
+ghost use Rattle.x12_world.specs.Running.{AllAnswer, all_answer};
 ghost use Rattle.x12_world.specs.Submission.{numbers_at, AreListed, NumbersRise};
 
 use crate::placing::{OutgoingSet, push_sets};
@@ -173,11 +173,11 @@ impl<R: Records, H: HubRecords> World<R, H> {
     ///
     /// V5 and V3, where memory is missing or the records of a station fail.
     pub fn keys(&mut self) -> Result<Vec<SetKey>, Refused>
-        ensures never_won_back { IsTrue self.new.answers → IsTrue self.old.answers }
-        ensures same { IsTrue self.new.answers → self.new.world ≡ self.old.world }
-        ensures all { IsTrue self.new.answers → IfOk result (λ v.
+        ensures never_won_back { AllAnswer self.new → AllAnswer self.old }
+        ensures same { AllAnswer self.new → self.new.world ≡ self.old.world }
+        ensures all { AllAnswer self.new → IfOk result (λ v.
             IsPermutation (keys_of x12 self.old.world) (map key_view v.items)) }
-        ensures rise { IsTrue self.new.answers → IfOk result (λ v.
+        ensures rise { AllAnswer self.new → IfOk result (λ v.
             KeysRise (map key_view v.items)) }
         ensures refused { IfErr result IsMissed }
         ensures store { CountsOne result self.old.failures self.new.failures }

@@ -1,10 +1,11 @@
 //! The audits of a network.
 
-ghost use Rattle.std.specs.Prelude.{◌≡◌, IsTrue, IfErr, IfOk, map};
+ghost use Rattle.std.specs.Prelude.{◌≡◌, IfErr, IfOk, map};
 ghost use Rattle.x12_world.specs.Failing.{CountsOne};
 ghost use Rattle.x12_world.specs.Asking.{IsMissed};
 ghost use Rattle.x12_world.specs.Auditing.{audit_view};
 ghost use Rattle.x12_world.specs.Audits.{AreAudits};
+ghost use Rattle.x12_world.specs.Running.{AllAnswer};
 
 use crate::audit::Audit;
 use crate::audits::audit_all;
@@ -19,9 +20,9 @@ impl<R: Records, H: HubRecords> World<R, H> {
     ///
     /// V5 and V3, where memory is missing or the records of a station fail.
     pub fn audits(&mut self) -> Result<Vec<Audit>, Refused>
-        ensures never_won_back { IsTrue self.new.answers → IsTrue self.old.answers }
-        ensures same { IsTrue self.new.answers → self.new.world ≡ self.old.world }
-        ensures audits { IsTrue self.new.answers →
+        ensures never_won_back { AllAnswer self.new → AllAnswer self.old }
+        ensures same { AllAnswer self.new → self.new.world ≡ self.old.world }
+        ensures audits { AllAnswer self.new →
             IfOk result (λ v. AreAudits self.old.world (map audit_view v.items)) }
         ensures refused { IfErr result IsMissed }
         ensures store { CountsOne result self.old.failures self.new.failures }

@@ -1,6 +1,6 @@
 //! Runs of a network.
 
-ghost use Rattle.std.specs.Prelude.{◌≡◌, IsTrue, IfOk, IfErr, OnOk, List, map};
+ghost use Rattle.std.specs.Prelude.{◌≡◌, IfOk, IfErr, OnOk, List, map};
 ghost use Rattle.x12_profile.specs.X12.{x12};
 ghost use Rattle.x12_world.specs.Failing.{SaysOneFailed};
 ghost use Rattle.x12_world.specs.EventView.{event_view};
@@ -9,6 +9,7 @@ ghost use Rattle.x12_world.specs.Loss.{Happening, run_so};
 ghost use Rattle.x12_world.specs.Outsider.{OutsidersMoveNothing};
 ghost use Rattle.x12_world.specs.Ran.{RanAll, StoppedAt, outcome_view};
 ghost use Rattle.x12_world.specs.Reach.{Onward, AlwaysFollows, OfBoth, ReachedFacts};
+ghost use Rattle.x12_world.specs.Running.{AllAnswer, NoneWonBack};
 
 use crate::event::Event;
 use crate::outcome::Outcome;
@@ -27,24 +28,24 @@ impl<R: Records, H: HubRecords> World<R, H> {
     /// fate never changes; and once the sender has handled its interchange's kept acknowledgment, no
     /// set of it is pending.
     pub fn run(&mut self, events: &[Event]) -> Result<Vec<Outcome>, (usize, Refused)>
-        ensures never_won_back { IsTrue self.new.answers → IsTrue self.old.answers }
-        ensures ran { IsTrue self.new.answers → IfOk result (λ os. RanAll self.old.world
+        ensures never_won_back { NoneWonBack self.old.answers self.new.answers }
+        ensures ran { AllAnswer self.new → IfOk result (λ os. RanAll self.old.world
             (map event_view events.now) (map outcome_view os.items) self.new.world) }
-        ensures stopped { IsTrue self.new.answers → IfErr result (λ e.
+        ensures stopped { AllAnswer self.new → IfErr result (λ e.
             StoppedAt self.old.world (map event_view events.now) e.0 e.1 self.new.world) }
         // an Ok leaves each count as it was; what stopped it says of no store that it failed without cause
         ensures store { OnOk result (self.new.failures ≡ self.old.failures)
             × IfErr result (λ e. SaysOneFailed e.1 self.old.failures self.new.failures) }
         // from the world before to the one after, and from this one to each later one; what follows is
         // of both
-        ensures headline { IsTrue self.new.answers → Headline x12 self.old.world self.new.world
+        ensures headline { AllAnswer self.new → Headline x12 self.old.world self.new.world
             × ((more : List Happening) →
             Headline x12 self.new.world (run_so x12 more self.new.world)) }
-        ensures refines { IsTrue self.new.answers →
+        ensures refines { AllAnswer self.new →
             OfBoth (AlwaysFollows x12) self.old.world self.new.world }
-        ensures outsiders { IsTrue self.new.answers → OfBoth
+        ensures outsiders { AllAnswer self.new → OfBoth
             (Onward x12 (OutsidersMoveNothing x12)) self.old.world self.new.world }
-        ensures facts { IsTrue self.new.answers → OfBoth
+        ensures facts { AllAnswer self.new → OfBoth
             (Onward x12 (ReachedFacts x12)) self.old.world self.new.world }
     {
         // law: what holds of each world that a network can reach

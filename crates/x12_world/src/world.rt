@@ -1,6 +1,6 @@
 //! A network that runs: its hubs and its stations over their records, and the packets that were sent.
 
-ghost use Rattle.std.specs.Prelude.{◌≡◌, List, ℕ, IsTrue, IfOk, IfErr, OnErr, option_map};
+ghost use Rattle.std.specs.Prelude.{◌≡◌, List, ℕ, IfOk, IfErr, OnErr, option_map};
 ghost use Rattle.std.specs.Option.{option_copied};
 ghost use Rattle.x12_profile.specs.X12.{x12};
 ghost use Rattle.x12_world.specs.EventView.{event_view};
@@ -9,7 +9,8 @@ ghost use Rattle.x12_world.specs.Packet.{packet_of};
 ghost use Rattle.x12_world.specs.Ran.{Ran, outcome_view};
 ghost use Rattle.x12_world.specs.Reach.{IsReachable};
 ghost use Rattle.x12_world.specs.Refusing.{IsNetworkRefusal};
-ghost use Rattle.x12_world.specs.Running.{founders_answer, nodes_of};
+ghost use Rattle.x12_world.specs.Running.{AllAnswer, AskedAnswers, NoneWonBack, founders_answers};
+ghost use Rattle.x12_world.specs.Running.{nodes_of};
 ghost use Rattle.x12_core.specs.View.{name_view, packet_view};
 
 use crate::applying::take;
@@ -27,7 +28,8 @@ use x12_station::{Records, Station};
 /// A network that runs: node 0 is its hub, nodes 1 to 16 are its stations, node 17 is a second hub, if
 /// there is one, and what was sent may be delivered any number of times, in any order, or never.
 ///
-/// What its calls promise holds while the records of all nodes answer.
+/// What a call promises of a node holds while the records of that node answer; what is said of the whole
+/// network, while those of all do.
 #[derive(Debug)]
 pub struct World<R: Records, H: HubRecords> {
     pub(crate) alloc: Global,
@@ -38,17 +40,12 @@ pub struct World<R: Records, H: HubRecords> {
 }
 
 impl<R: Records, H: HubRecords> Model for World<R, H> {
-    ghost use Rattle.x12_world.specs.Failing.{failures_of};
-    ghost use Rattle.x12_world.specs.Running.{Running, nodes_answer, world_of};
-    ghost use Rattle.x12_world.specs.Runs.{Runs};
+    ghost use Rattle.x12_world.specs.Running.{Running};
+    ghost use Rattle.x12_world.specs.Runs.{Runs, running};
 
     ghost Value = { Running };
 
-    ghost view = { λ w. record {
-      world = world_of w.hubs w.stations.items w.held.items;
-      answers = nodes_answer w.hubs w.stations.items;
-      failures = failures_of w.hubs w.stations.items;
-    } };
+    ghost view = { λ w. running w.hubs w.stations.items w.held.items };
 
     ghost invariant = { λ w. Runs w.hubs w.stations.items w.held.items w.submitted.items };
 }
@@ -59,14 +56,14 @@ impl<R: Records, H: HubRecords> World<R, H> {
     /// V7, V4, V1, V2, V5 and V3, the first that holds; the network is then as it was, and the event
     /// takes no number.
     pub fn apply(&mut self, event: &Event) -> Result<Outcome, Refused>
-        ensures never_won_back { IsTrue self.new.answers → IsTrue self.old.answers }
-        ensures ran { IsTrue self.new.answers → IfOk result (λ o.
+        ensures never_won_back { NoneWonBack self.old.answers self.new.answers }
+        ensures ran { AskedAnswers self.old.world (event_view event.now) self.new → IfOk result (λ o.
             Ran self.old.world (event_view event.now) (outcome_view o) self.new.world) }
-        ensures reached { IsTrue self.new.answers → IsReachable x12 self.new.world }
+        ensures reached { AllAnswer self.new → IsReachable x12 self.new.world }
 
-        ensures refused { IsTrue self.new.answers →
+        ensures refused { AskedAnswers self.old.world (event_view event.now) self.new →
             IfErr result (IsNetworkRefusal self.old.world (event_view event.now)) }
-        ensures unchanged { IsTrue self.new.answers →
+        ensures unchanged { AskedAnswers self.old.world (event_view event.now) self.new →
             OnErr result (self.new.world ≡ self.old.world) }
         ensures store { CountsOne result self.old.failures self.new.failures }
     {
@@ -92,7 +89,7 @@ impl<R: Records, H: HubRecords> World<R, H> {
 
     /// Ends the network: its hub, its second hub, if it has one, and its stations come back as they are.
     pub fn end(self) -> (Hub<H>, Option<Hub<H>>, Vec<Station<R>>)
-        ensures answers { founders_answer result.0 result.1 result.2.items ≡ self.answers }
+        ensures answers { founders_answers result.0 result.1 result.2.items ≡ self.answers }
         ensures nodes { (homes : List ℕ) × (self.world.nodes ≡ nodes_of (record {
           first = result.0.hub;
           second = option_map (λ k. k.hub) result.1;

@@ -1,85 +1,166 @@
 -- What a hub, or a station, did is what the event makes of the network.
-use Rattle.std.proofs.Common.{◌≡◌, Some, false, subst, sym, ap, arith, ◌∙◌}
+use Rattle.std.proofs.Common.{◌≡◌, ◌≤◌, Some, false, Result, Ok, Err, OnErr, subst, sym, ap, arith, length, ◌∙◌}
 use Rattle.std.specs.Prelude.{is_some, option_map}
+use Rattle.std.proofs.lemmas.List.{length-map}
 use Rattle.x12_core.specs.Sends.{sends_view}
 use Rattle.x12_core.specs.View.{ref_view}
 use Rattle.x12_core.specs.declared.packet.Site.{Site}
+use Rattle.x12_station.specs.Seen.{StationView}
 use Rattle.x12_world.specs.Asks.{IsAsked, IsAskedInVain}
 use Rattle.x12_world.specs.Effect.{Asked, asked_by}
 use Rattle.x12_world.specs.EventView.{asked_view, event_view}
 use Rattle.x12_world.specs.Nodes.{is_hub_number, site_of}
 use Rattle.x12_world.specs.Refusing.{IsNetworkRefusal}
-use Rattle.x12_world.specs.Running.{hubs_in, nodes_of, station_nodes, world_of}
-use Rattle.x12_world.proofs.ActingLemmas.{fits_there, hubs_answered, refused, stations_answer, told_so, took}
+use Rattle.x12_world.specs.Running.{beside, hubs_in, nodes_of, station_answers, station_nodes, world_of}
+use Rattle.x12_world.specs.Runs.{running}
+use Rattle.x12_world.proofs.ActingLemmas.{fits_there, hub_so, refused, station_so, told_so, took}
+use Rattle.x12_world.proofs.AnswerLemmas.{asked_of_all, won_stations}
 use Rattle.x12_world.proofs.FailingLemmas.{asked_beside, asked_handed}
 use Rattle.x12_world.proofs.RunningLemmas.{few_numbers, second_kept, station_meant}
 use Rattle.x12_world.proofs.acting.act.Goals as goal
+
+stays : {A E : Type 0} {P : Type 0} (r : Result A E) → P → OnErr r P
+stays (Ok x) p = tt
+stays (Err f) p = p
 
 pub returns-then-have-clause-took : goal.returns-then-have-clause-took
 returns-then-have-clause-took g c = λ answers.
     let hubs = c.args.hubs.now in
     let ss = c.args.stations.now.items in
+    let held = c.args.held.now.items in
     let e = event_view c.args.event.now in
-    let w = world_of hubs ss c.args.held.now.items in
+    let w = world_of hubs ss held in
     let a : Asked = record { node = c.in-Some.node; ask = ref_view c.in-Some.ask } in
     let is : asked_by w.packets e ≡ Some a = sym c.asked.ensures ∙ ap (option_map asked_view) c.in-Some.is in
-    let new = nodes_of (hubs_in c.at_hub.new.hubs) ss in
-    let sends = sends_view c.in_ok-at_hub.field-0 in
+    let new = c.at_hub.new.hubs in
+    let there = hub_so hubs new ss held e a is c.at_hub.ensures.second (sym c.have.ensures ∙ c.if-have.true) answers c.site-site.result.node c.site-site.ensures.node in
     let site : c.site-site.result ≡ site_of w.nodes a.node = λ j. record { node = c.site-site.ensures.node j; hub = c.site-site.ensures.hub j } in
-    took w e a new sends is c.requires.admitted.1
-    (subst (λ (at : Site). IsAsked a.ask at w.nodes new sends) site (c.in_ok-at_hub.ensures.took (hubs_answered c.at_hub.new.hubs ss answers) (station_nodes ss)))
+    let sends = sends_view c.in_ok-at_hub.field-0 in
+    let nodes = nodes_of (hubs_in new) ss in
+    took w e a nodes sends is c.requires.admitted.1
+    (subst (λ (at : Site). IsAsked a.ask at w.nodes nodes sends) site (c.in_ok-at_hub.ensures.took there (station_nodes ss)))
 
 pub returns-clause-took : goal.returns-clause-took
 returns-clause-took g c = λ answers.
     let hubs = c.args.hubs.now in
     let ss = c.args.stations.now.items in
-    let numbers = few_numbers hubs ss (let n = c.args.stations.now.ok.0 in let few = c.requires.admitted.0 in omega arith) in
+    let held = c.args.held.now.items in
     let e = event_view c.args.event.now in
-    let w = world_of hubs ss c.args.held.now.items in
+    let w = world_of hubs ss held in
     let a : Asked = record { node = c.in-Some.node; ask = ref_view c.in-Some.ask } in
     let is : asked_by w.packets e ≡ Some a = sym c.asked.ensures ∙ ap (option_map asked_view) c.in-Some.is in
-    let new = nodes_of (hubs_in hubs) c.at_station.new.stations.items in
-    let sends = sends_view c.in_ok-at_station.field-0 in
+    let new = c.at_station.new.stations.items in
+    let numbers = few_numbers hubs ss (let n = c.args.stations.now.ok.0 in let few = c.requires.admitted.0 in omega arith) in
+    let isnt : is_hub_number (is_some hubs.second) a.node ≡ false = sym c.have.ensures ∙ c.if-have.false in
+    let number = station_meant (hubs_in hubs) ss a.node numbers a.ask (sym (second_kept hubs a.node) ∙ isnt) (fits_there w e a is c.requires.admitted.1) in
+    let high : a.node ≤ length new = let n = number.1 in let same = c.at_station.ensures.len in omega arith in
+    let there = station_so hubs ss new held e a is isnt number.0 high answers c.site-site.result.node c.site-site.ensures.node in
     let site : c.site-site.result ≡ site_of w.nodes a.node = λ j. record { node = c.site-site.ensures.node j; hub = c.site-site.ensures.hub j } in
-    took w e a new sends is c.requires.admitted.1
-    (subst (λ (at : Site). IsAsked a.ask at w.nodes new sends) site (c.in_ok-at_station.ensures.took (stations_answer hubs c.at_station.new.stations.items answers) (hubs_in hubs) numbers))
+    let sends = sends_view c.in_ok-at_station.field-0 in
+    let nodes = nodes_of (hubs_in hubs) new in
+    took w e a nodes sends is c.requires.admitted.1
+    (subst (λ (at : Site). IsAsked a.ask at w.nodes nodes sends) site (c.in_ok-at_station.ensures.took there (hubs_in hubs) numbers))
+
+pub returns-clause-submits : goal.returns-clause-submits
+returns-clause-submits g c = λ all.
+    let hubs = c.args.hubs.now in
+    let ss = c.args.stations.now.items in
+    let held = c.args.held.now.items in
+    let e = event_view c.args.event.now in
+    let w = world_of hubs ss held in
+    let a : Asked = record { node = c.in-Some.node; ask = ref_view c.in-Some.ask } in
+    let is : asked_by w.packets e ≡ Some a = sym c.asked.ensures ∙ ap (option_map asked_view) c.in-Some.is in
+    let new = c.at_station.new.stations.items in
+    let numbers = few_numbers hubs ss (let n = c.args.stations.now.ok.0 in let few = c.requires.admitted.0 in omega arith) in
+    let isnt : is_hub_number (is_some hubs.second) a.node ≡ false = sym c.have.ensures ∙ c.if-have.false in
+    let number = station_meant (hubs_in hubs) ss a.node numbers a.ask (sym (second_kept hubs a.node) ∙ isnt) (fits_there w e a is c.requires.admitted.1) in
+    let high : a.node ≤ length new = let n = number.1 in let same = c.at_station.ensures.len in omega arith in
+    let there = station_so hubs ss new held e a is isnt number.0 high (asked_of_all (running hubs new held) all (asked_by w.packets e)) c.site-site.result.node c.site-site.ensures.node in
+    c.in_ok-at_station.ensures.submits there
 
 pub returns-in_err-at_hub-clause-refused : goal.returns-in_err-at_hub-clause-refused
 returns-in_err-at_hub-clause-refused g c = λ answers.
     let hubs = c.args.hubs.now in
     let ss = c.args.stations.now.items in
+    let held = c.args.held.now.items in
     let e = event_view c.args.event.now in
-    let w = world_of hubs ss c.args.held.now.items in
+    let w = world_of hubs ss held in
     let a : Asked = record { node = c.in-Some.node; ask = ref_view c.in-Some.ask } in
     let is : asked_by w.packets e ≡ Some a = sym c.asked.ensures ∙ ap (option_map asked_view) c.in-Some.is in
+    let new = c.at_hub.new.hubs in
+    let there = hub_so hubs new ss held e a is c.at_hub.ensures.second (sym c.have.ensures ∙ c.if-have.true) answers c.site-site.result.node c.site-site.ensures.node in
     let fault = c.in_err-at_hub.field-0.0 in
     told_so c.from_residual.result fault (IsNetworkRefusal w e) c.from_residual.ensures.1
     (refused w e a fault is c.requires.admitted.1
-    (subst (λ k. IsAskedInVain a.ask k w.nodes fault) c.site-site.ensures.node (c.in_err-at_hub.ensures.refused (hubs_answered c.at_hub.new.hubs ss answers) (station_nodes ss))))
+    (subst (λ k. IsAskedInVain a.ask k w.nodes fault) c.site-site.ensures.node (c.in_err-at_hub.ensures.refused there (station_nodes ss))))
 
 pub returns-in_err-at_station-clause-refused : goal.returns-in_err-at_station-clause-refused
 returns-in_err-at_station-clause-refused g c = λ answers.
     let hubs = c.args.hubs.now in
     let ss = c.args.stations.now.items in
-    let numbers = few_numbers hubs ss (let n = c.args.stations.now.ok.0 in let few = c.requires.admitted.0 in omega arith) in
+    let held = c.args.held.now.items in
     let e = event_view c.args.event.now in
-    let w = world_of hubs ss c.args.held.now.items in
+    let w = world_of hubs ss held in
     let a : Asked = record { node = c.in-Some.node; ask = ref_view c.in-Some.ask } in
     let is : asked_by w.packets e ≡ Some a = sym c.asked.ensures ∙ ap (option_map asked_view) c.in-Some.is in
+    let new = c.at_station.new.stations.items in
+    let numbers = few_numbers hubs ss (let n = c.args.stations.now.ok.0 in let few = c.requires.admitted.0 in omega arith) in
+    let isnt : is_hub_number (is_some hubs.second) a.node ≡ false = sym c.have.ensures ∙ c.if-have.false in
+    let number = station_meant (hubs_in hubs) ss a.node numbers a.ask (sym (second_kept hubs a.node) ∙ isnt) (fits_there w e a is c.requires.admitted.1) in
+    let high : a.node ≤ length new = let n = number.1 in let same = c.at_station.ensures.len in omega arith in
+    let there = station_so hubs ss new held e a is isnt number.0 high answers c.site-site.result.node c.site-site.ensures.node in
     let fault = c.in_err-at_station.field-0.0 in
     told_so c.from_residual-in_err-at_station.result fault (IsNetworkRefusal w e) c.from_residual-in_err-at_station.ensures.1
     (refused w e a fault is c.requires.admitted.1
-    (subst (λ k. IsAskedInVain a.ask k w.nodes fault) c.site-site.ensures.node (c.in_err-at_station.ensures.refused (stations_answer hubs c.at_station.new.stations.items answers) (hubs_in hubs) numbers)))
+    (subst (λ k. IsAskedInVain a.ask k w.nodes fault) c.site-site.ensures.node (c.in_err-at_station.ensures.refused there (hubs_in hubs) numbers)))
+
+pub returns-in_err-at_hub-clause-unchanged : goal.returns-in_err-at_hub-clause-unchanged
+returns-in_err-at_hub-clause-unchanged g c = λ answers.
+    let hubs = c.args.hubs.now in
+    let ss = c.args.stations.now.items in
+    let held = c.args.held.now.items in
+    let e = event_view c.args.event.now in
+    let w = world_of hubs ss held in
+    let a : Asked = record { node = c.in-Some.node; ask = ref_view c.in-Some.ask } in
+    let is : asked_by w.packets e ≡ Some a = sym c.asked.ensures ∙ ap (option_map asked_view) c.in-Some.is in
+    let new = c.at_hub.new.hubs in
+    let there = hub_so hubs new ss held e a is c.at_hub.ensures.second (sym c.have.ensures ∙ c.if-have.true) answers c.site-site.result.node c.site-site.ensures.node in
+    stays c.from_residual.result (ap (λ h. beside h (station_nodes ss)) (c.in_err-at_hub.ensures.unchanged there))
+
+pub returns-in_err-at_station-clause-unchanged : goal.returns-in_err-at_station-clause-unchanged
+returns-in_err-at_station-clause-unchanged g c = λ answers.
+    let hubs = c.args.hubs.now in
+    let ss = c.args.stations.now.items in
+    let held = c.args.held.now.items in
+    let e = event_view c.args.event.now in
+    let w = world_of hubs ss held in
+    let a : Asked = record { node = c.in-Some.node; ask = ref_view c.in-Some.ask } in
+    let is : asked_by w.packets e ≡ Some a = sym c.asked.ensures ∙ ap (option_map asked_view) c.in-Some.is in
+    let new = c.at_station.new.stations.items in
+    let numbers = few_numbers hubs ss (let n = c.args.stations.now.ok.0 in let few = c.requires.admitted.0 in omega arith) in
+    let isnt : is_hub_number (is_some hubs.second) a.node ≡ false = sym c.have.ensures ∙ c.if-have.false in
+    let number = station_meant (hubs_in hubs) ss a.node numbers a.ask (sym (second_kept hubs a.node) ∙ isnt) (fits_there w e a is c.requires.admitted.1) in
+    let high : a.node ≤ length new = let n = number.1 in let same = c.at_station.ensures.len in omega arith in
+    let there = station_so hubs ss new held e a is isnt number.0 high answers c.site-site.result.node c.site-site.ensures.node in
+    stays c.from_residual-in_err-at_station.result (ap (beside (hubs_in hubs)) (c.in_err-at_station.ensures.unchanged there))
+
+pub returns-clause-never_won_back : goal.returns-clause-never_won_back
+returns-clause-never_won_back g c =
+    let ss = c.args.stations.now.items in
+    let new = c.at_station.new.stations.items in
+    won_stations c.args.hubs.now (station_answers ss) (station_answers new)
+    (length-map ss (λ (s : StationView _). s.answers) ∙ sym c.at_station.ensures.len ∙ sym (length-map new (λ (s : StationView _). s.answers))) c.at_station.ensures.never_won_back
 
 pub at_station-requires : goal.at_station-requires
 at_station-requires g c =
     let hubs = c.args.hubs.now in
     let ss = c.args.stations.now.items in
-    let numbers = few_numbers hubs ss (let n = c.args.stations.now.ok.0 in let few = c.requires.admitted.0 in omega arith) in
+    let held = c.args.held.now.items in
     let e = event_view c.args.event.now in
-    let w = world_of hubs ss c.args.held.now.items in
+    let w = world_of hubs ss held in
     let a : Asked = record { node = c.in-Some.node; ask = ref_view c.in-Some.ask } in
     let is : asked_by w.packets e ≡ Some a = sym c.asked.ensures ∙ ap (option_map asked_view) c.in-Some.is in
+    let numbers = few_numbers hubs ss (let n = c.args.stations.now.ok.0 in let few = c.requires.admitted.0 in omega arith) in
     let isnt : is_hub_number (is_some (hubs_in hubs).second) a.node ≡ false = sym (second_kept hubs a.node) ∙ sym c.have.ensures ∙ c.if-have.false in
     let number = station_meant (hubs_in hubs) ss a.node numbers a.ask isnt (fits_there w e a is c.requires.admitted.1) in
     let same = c.site-site.ensures.node in

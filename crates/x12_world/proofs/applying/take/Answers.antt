@@ -1,12 +1,15 @@
 -- What was taken and held is the definition's step.
-use Rattle.std.proofs.Common.{◌≡◌, suc, ◌++◌, length, subst, ap, arith, List, Vec}
+use Rattle.std.proofs.Common.{◌≡◌, suc, ◌++◌, length, subst, sym, ap, arith, List, Vec}
 use Rattle.std.specs.Prelude.{if◌then◌else◌}
 use Rattle.std.specs.Global.{Global}
 use Rattle.x12_core.specs.declared.packet.Packet.{Packet as CodePacket}
 use Rattle.x12_world.specs.EventView.{event_view}
 use Rattle.x12_world.specs.Packet.{named}
 use Rattle.x12_world.specs.Ran.{outcome_view}
-use Rattle.x12_world.specs.Running.{hubs_in, nodes_of, world_of}
+use Rattle.x12_world.specs.Effect.{asked_by}
+use Rattle.x12_world.specs.Running.{AskedAnswers, hubs_in, nodes_of, world_of}
+use Rattle.x12_world.specs.Runs.{running}
+use Rattle.x12_world.proofs.AnswerLemmas.{asked_of_all}
 use Rattle.x12_core.specs.Sends.{sends_view}
 use Rattle.x12_world.specs.Taking.{IsTaken}
 use Rattle.x12_world.specs.View.{held_view}
@@ -25,7 +28,7 @@ returns-clause-ran g c = λ answers.
     let e = event_view c.args.event.now in
     let sends = sends_view c.in_ok-sends.sends in
     let same : room.items ≡ held.items = c.in_ok-reserve.ensures.items in
-    let taken : IsTaken (world_of h ss held.items) e nodes sends = subst (λ (v : List (Vec CodePacket Global)). IsTaken (world_of h ss v) e nodes sends) same (c.in_ok-sends.ensures.took answers) in
+    let taken : IsTaken (world_of h ss held.items) e nodes sends = subst (λ (v : List (Vec CodePacket Global)). IsTaken (world_of h ss v) e nodes sends) same (c.in_ok-sends.ensures.took (subst (λ (v : List (Vec CodePacket Global)). AskedAnswers (world_of h ss v) e (running c.act.new.hubs c.act.new.stations.items v)) (sym same) answers)) in
     let next : c.in_ok-number.number ≡ suc (length held.items) = let k = c.in_ok-number.ensures.number in let ok = held.ok.0 in omega arith in
     let last : length new.items ≡ c.in_ok-number.number =
     let a = new.ok.0 in let b = c.keep.ensures.len in let d = room.ok.0 in let f = ap length same in let k = next in omega arith in
@@ -34,6 +37,8 @@ returns-clause-ran g c = λ answers.
     c.keep.ensures.outcome
 
 pub returns-in_err-sends-clause-listed : goal.returns-in_err-sends-clause-listed
-returns-in_err-sends-clause-listed g c = λ answers.
+returns-in_err-sends-clause-listed g c = λ all.
+    let now = running c.act.new.hubs c.act.new.stations.items c.reserve.new.self.items in
+    let asked = asked_of_all now all (asked_by now.world.packets (event_view c.args.event.now)) in
     still_listed (hubs_in c.args.hubs.now) (hubs_in c.act.new.hubs) c.args.stations.now.items c.act.new.stations.items c.args.submitted.now.items c.reserve-2.new.self.items
-    (c.in_err-sends.ensures.unchanged answers) c.in_ok-reserve-2.ensures.items
+    (c.in_err-sends.ensures.unchanged asked) c.in_ok-reserve-2.ensures.items

@@ -1,6 +1,6 @@
 -- The tests are those of a network.
 use Rattle.std.proofs.Common.{◌≡◌, ◌≢◌, ◌∷◌, sym, ◌∙◌, subst, true, false, not, option_map, arith}
-use Rattle.std.specs.Prelude.{All, AllPairs, IsTrue, option_to_list}
+use Rattle.std.specs.Prelude.{◌&&◌, All, AllPairs, IsTrue, option_to_list}
 use Rattle.std.specs.List.{list_any}
 use Rattle.std.proofs.lemmas.Bool.{and_parts}
 use Rattle.std.proofs.lemmas.List.Elements.{All-append, All-cons}
@@ -10,6 +10,7 @@ use Rattle.x12_hub.specs.Hub.{Hub}
 use Rattle.x12_judge.specs.Agreement.{is_same_party}
 use Rattle.x12_world.specs.Founding.{parties, IsMember}
 use Rattle.x12_world.specs.Running.{all_answer, second_answers}
+use Rattle.x12_world.proofs.AnswerLemmas.{founders_parts}
 use Rattle.x12_world.proofs.FoundingLemmas.{all_apart, among, named_parties, network_parties, not_apart, not_all_apart, not_second_apart}
 use Rattle.x12_world.proofs.founding.is_network.Goals as goal
 
@@ -47,6 +48,15 @@ returns-then-not-differ-clause-no g c = λ answers m.
     let apart = subst (AllPairs (λ (a : Party) b. a ≢ b)) (network_parties h second ss) m.distinct in
     not_all_apart h.me ps other (sym c.differ.ensures.differ ∙ c.if-not-differ.true) apart
 
+pub returns-then-not-are_members-clause-no : goal.returns-then-not-are_members-clause-no
+returns-then-not-are_members-clause-no g c = λ answers m.
+    let ss = c.args.stations.now in
+    let other = option_map (λ (k : Hub). k.me) (option_map (λ k. k.hub) c.args.second.now) in
+    let pair = c.args.hub.now.answers && second_answers c.args.second.now in
+    let all = (and_parts pair (all_answer ss) (sym (founders_parts c.args.hub.now c.args.second.now ss) ∙ answers)).1 in
+    let members = subst (λ q. All (λ s. IsMember c.party-party.result q s.state) ss) (sym c.party_of-other.ensures.party) (subst (λ p. All (λ s. IsMember p other s.state) ss) (sym c.party-party.ensures.party) m.members) in
+    sym c.if-not-are_members.true ∙ c.are_members.ensures.no all members
+
 pub returns-then-is_new-clause-yes : goal.returns-then-is_new-clause-yes
 returns-then-is_new-clause-yes g c = λ answers is.
     let ss = c.args.stations.now in
@@ -58,7 +68,8 @@ returns-then-is_new-clause-yes g c = λ answers is.
     let out : not (list_any (among h.me ps) (option_to_list other)) ≡ true =
     subst (λ p. not (list_any (among p ps) (option_to_list other)) ≡ true) c.party-party.ensures.party
     (subst (λ q. not (list_any (among c.party-party.result ps) (option_to_list q)) ≡ true) c.party_of-other.ensures.party (sym c.is_apart.ensures ∙ c.if-not-is_apart.false)) in
-    let both = and_parts _ (all_answer ss) answers in
+    let pair = c.args.hub.now.answers && second_answers c.args.second.now in
+    let both = and_parts pair (all_answer ss) (sym (founders_parts c.args.hub.now c.args.second.now ss) ∙ answers) in
     let hubs = and_parts c.args.hub.now.answers (second_answers c.args.second.now) both.0 in
     let members = c.are_members.ensures.yes both.1 c.if-not-are_members.false in
     record {

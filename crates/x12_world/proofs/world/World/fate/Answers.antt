@@ -1,9 +1,12 @@
-use Rattle.std.proofs.Common.{◌<◌, ◌≡◌, true, is_some, length, ap, subst}
+use Rattle.std.proofs.Common.{◌<◌, ◌≡◌, true, is_some, length, set, ap, subst, sym}
+use Rattle.x12_world.specs.Asking.{PartyAnswers}
+use Rattle.x12_world.specs.Running.{Running}
+use Rattle.x12_world.specs.Runs.{running}
 use Rattle.x12_world.specs.Audit.{station_named}
 use Rattle.x12_world.specs.Failing.{failures_beside}
 use Rattle.x12_world.proofs.world.World.fate.Goals as goal
 use Rattle.x12_world.proofs.FailingLemmas.{counts_alike, counts_told, failed_behind}
-use Rattle.x12_world.proofs.AskingLemmas.{station_found, none_found, answered, stays, stays_reached, asked_answers, handed_on, handed_same}
+use Rattle.x12_world.proofs.AskingLemmas.{by_party, has_party, station_found, none_found, stays, stays_reached, won, handed_on, handed_same}
 
 pub invariant_of-self : goal.invariant_of-self
 invariant_of-self g c =
@@ -22,36 +25,44 @@ invariant_of-self-2 g c =
     within c.index_mut.ensures.value c.fate.ensures.never_won_back c.fate.ensures.same c.self.inside.submitted.items c.self.invariant
 
 pub returns-in_err-fate-clause-never_won_back : goal.returns-in_err-fate-clause-never_won_back
-returns-in_err-fate-clause-never_won_back g c answers =
+returns-in_err-fate-clause-never_won_back g c =
     let ss = c.self.inside.stations in
     let there = c.in_ok-place.ensures.there in
     let within : c.in_ok-place.place < length ss.items = subst (λ rs. c.in_ok-place.place < length rs) c.deref.ensures.value there.0 in
-    rw (← c.self.view_is) (answered c.self.inside.hubs ss.items c.self.inside.held.items c.in_ok-place.place c.index_mut.result.now c.fate.new.self
-    within c.index_mut.ensures.value c.fate.ensures.never_won_back c.fate.ensures.same answers)
+    rw (← c.self.view_is) (won c.self.inside.hubs ss.items c.self.inside.held.items c.in_ok-place.place c.index_mut.result.now c.fate.new.self
+    within c.index_mut.ensures.value c.fate.ensures.never_won_back c.fate.ensures.same)
 
 pub returns-in_err-fate-clause-same : goal.returns-in_err-fate-clause-same
 returns-in_err-fate-clause-same g c answers =
     let ss = c.self.inside.stations in
     let there = c.in_ok-place.ensures.there in
     let within : c.in_ok-place.place < length ss.items = subst (λ rs. c.in_ok-place.place < length rs) c.deref.ensures.value there.0 in
+    let named = has_party ss.items c.deref.result.now c.deref.ensures.value c.args.key.now.sender c.in_ok-place.place c.index_mut.result.now there.0 c.index_mut.ensures.value there.1 in
+    let asked = by_party c.self.inside.hubs ss.items c.self.inside.held.items c.in_ok-place.place c.index_mut.result.now c.fate.new.self
+    within c.index_mut.ensures.value c.fate.ensures.never_won_back c.fate.ensures.same c.args.key.now.sender c.self.invariant.few named
+    (subst (λ (v : Running). PartyAnswers v.world c.args.key.now.sender (running c.self.inside.hubs (set ss.items c.in_ok-place.place c.fate.new.self) c.self.inside.held.items)) (sym c.self.view_is) answers) in
     rw (← c.self.view_is) (stays c.self.inside.hubs ss.items c.self.inside.held.items c.in_ok-place.place c.index_mut.result.now c.fate.new.self
-    within c.index_mut.ensures.value c.fate.ensures.never_won_back c.fate.ensures.same answers)
+    within c.index_mut.ensures.value c.fate.ensures.never_won_back c.fate.ensures.same asked)
 
 pub returns-clause-never_won_back : goal.returns-clause-never_won_back
-returns-clause-never_won_back g c answers =
+returns-clause-never_won_back g c =
     let ss = c.self.inside.stations in
     let there = c.in_ok-place.ensures.there in
     let within : c.in_ok-place.place < length ss.items = subst (λ rs. c.in_ok-place.place < length rs) c.deref.ensures.value there.0 in
-    rw (← c.self.view_is) (answered c.self.inside.hubs ss.items c.self.inside.held.items c.in_ok-place.place c.index_mut.result.now c.fate.new.self
-    within c.index_mut.ensures.value c.fate.ensures.never_won_back c.fate.ensures.same answers)
+    rw (← c.self.view_is) (won c.self.inside.hubs ss.items c.self.inside.held.items c.in_ok-place.place c.index_mut.result.now c.fate.new.self
+    within c.index_mut.ensures.value c.fate.ensures.never_won_back c.fate.ensures.same)
 
 pub returns-clause-same : goal.returns-clause-same
 returns-clause-same g c answers =
     let ss = c.self.inside.stations in
     let there = c.in_ok-place.ensures.there in
     let within : c.in_ok-place.place < length ss.items = subst (λ rs. c.in_ok-place.place < length rs) c.deref.ensures.value there.0 in
+    let named = has_party ss.items c.deref.result.now c.deref.ensures.value c.args.key.now.sender c.in_ok-place.place c.index_mut.result.now there.0 c.index_mut.ensures.value there.1 in
+    let asked = by_party c.self.inside.hubs ss.items c.self.inside.held.items c.in_ok-place.place c.index_mut.result.now c.fate.new.self
+    within c.index_mut.ensures.value c.fate.ensures.never_won_back c.fate.ensures.same c.args.key.now.sender c.self.invariant.few named
+    (subst (λ (v : Running). PartyAnswers v.world c.args.key.now.sender (running c.self.inside.hubs (set ss.items c.in_ok-place.place c.fate.new.self) c.self.inside.held.items)) (sym c.self.view_is) answers) in
     rw (← c.self.view_is) (stays c.self.inside.hubs ss.items c.self.inside.held.items c.in_ok-place.place c.index_mut.result.now c.fate.new.self
-    within c.index_mut.ensures.value c.fate.ensures.never_won_back c.fate.ensures.same answers)
+    within c.index_mut.ensures.value c.fate.ensures.never_won_back c.fate.ensures.same asked)
 
 pub returns-in_err-fate-clause-refused : goal.returns-in_err-fate-clause-refused
 returns-in_err-fate-clause-refused g c =
@@ -67,9 +78,11 @@ returns-clause-fate g c answers =
     let ss = c.self.inside.stations in
     let there = c.in_ok-place.ensures.there in
     let within : c.in_ok-place.place < length ss.items = subst (λ rs. c.in_ok-place.place < length rs) c.deref.ensures.value there.0 in
+    let named = has_party ss.items c.deref.result.now c.deref.ensures.value c.args.key.now.sender c.in_ok-place.place c.index_mut.result.now there.0 c.index_mut.ensures.value there.1 in
+    let asked = by_party c.self.inside.hubs ss.items c.self.inside.held.items c.in_ok-place.place c.index_mut.result.now c.fate.new.self
+    within c.index_mut.ensures.value c.fate.ensures.never_won_back c.fate.ensures.same c.args.key.now.sender c.self.invariant.few named
+    (subst (λ (v : Running). PartyAnswers v.world c.args.key.now.sender (running c.self.inside.hubs (set ss.items c.in_ok-place.place c.fate.new.self) c.self.inside.held.items)) (sym c.self.view_is) answers) in
     let at = station_found c.self.inside.hubs ss.items c.deref.result.now c.deref.ensures.value c.self.inside.held.items c.args.key.now.sender c.in_ok-place.place c.index_mut.result.now there.0 c.index_mut.ensures.value there.1 in
-    let asked = asked_answers c.self.inside.hubs ss.items c.self.inside.held.items c.in_ok-place.place c.index_mut.result.now c.fate.new.self
-    within c.index_mut.ensures.value c.fate.ensures.never_won_back c.fate.ensures.same answers in
     rw (← c.self.view_is) (c.index_mut.result.now.state, at, c.in_ok-fate.ensures.fate asked)
 
 pub returns-in_err-place-clause-refused : goal.returns-in_err-place-clause-refused

@@ -1,5 +1,5 @@
 -- Each event was taken where those before it left the network, which stays one that was reached.
-use Rattle.std.proofs.Common.{◌≡◌, ◌≤◌, ◌<◌, ◌+◌, ◌++◌, ◌∷◌, [], ℕ, List, length, map, take, get_or, sym, subst, ap, ◌∙◌, arith, IsTrue}
+use Rattle.std.proofs.Common.{◌≡◌, ◌≤◌, ◌<◌, ◌+◌, ◌++◌, ◌∷◌, [], ℕ, List, length, map, take, get_or, sym, subst, ap, ◌∙◌, arith}
 use Rattle.std.proofs.lemmas.List.{get_or-map, length-map, map-append, take_all, take_more}
 use Rattle.x12_profile.specs.X12.{x12}
 use Rattle.x12_world.specs.EventView.{event_view}
@@ -7,7 +7,9 @@ use Rattle.x12_world.specs.Outcome.{EventOutcome}
 use Rattle.x12_world.specs.Ran.{EachRan, outcome_view}
 use Rattle.x12_world.specs.Reach.{IsReachable}
 use Rattle.x12_world.specs.Refusing.{IsNetworkRefusal}
-use Rattle.x12_world.specs.Running.{Running}
+use Rattle.x12_world.specs.Effect.{asked_by}
+use Rattle.x12_world.specs.Running.{AllAnswer, Running}
+use Rattle.x12_world.proofs.AnswerLemmas.{all_back, asked_of_all}
 use Rattle.x12_world.specs.World.{Event}
 use Rattle.x12_world.proofs.RanLemmas.{by_run, each_more, facts_later, headline_both, reached_run, stopped}
 use Rattle.x12_world.proofs.world.World.run.Goals as goal
@@ -23,7 +25,7 @@ one_taken f xs i x lt is = take_more (map f xs) i (f x) (let e = length-map xs f
 pub returns-in_default-clause-headline : goal.returns-in_default-clause-headline
 returns-in_default-clause-headline g c = λ answers.
     let w = c.args.self.now.world in
-    let reach = subst (λ (v : Running). IsTrue v.answers → IsReachable x12 v.world) c.self.view_is c.self.invariant.reached answers in
+    let reach = subst (λ (v : Running). AllAnswer v → IsReachable x12 v.world) c.self.view_is c.self.invariant.reached answers in
     (c.reached.ensures.reached.headline w reach [], c.reached.ensures.reached.headline w reach)
 
 pub returns-in-Err-clause-stopped : goal.returns-in-Err-clause-stopped
@@ -36,14 +38,15 @@ returns-in-Err-clause-stopped g c = λ answers.
     let new = c.apply.new.self.world in
     let place = at.place in
     let item = c.event-item.result in
-    let same = sym (c.in-Err.ensures.unchanged answers) in
+    let asked = asked_of_all c.apply.new.self answers (asked_by at.self.world.packets (event_view item)) in
+    let same = sym (c.in-Err.ensures.unchanged asked) in
     let lt : place < length events = let a = at.invariant.place in let b = c.loop-event-test.true in omega arith in
     let is : item ≡ get_or events place item = subst (λ k. item ≡ get_or events k item) (sym at.invariant.place) c.event-item.is in
     let within : place ≤ length es = let e = length-map events event_view in omega arith in
     stopped w new es os place c.in-Err.refused (event_view item) within
-    (subst (EachRan w (take place es) os) same (at.invariant.each (c.in-Err.ensures.never_won_back answers)))
+    (subst (EachRan w (take place es) os) same (at.invariant.each (all_back at.self.answers c.apply.new.self.answers c.in-Err.ensures.never_won_back answers)))
     (mapped_at event_view events place item lt is)
-    (subst (λ v. IsNetworkRefusal v (event_view item) c.in-Err.refused) same (c.in-Err.ensures.refused answers))
+    (subst (λ v. IsNetworkRefusal v (event_view item) c.in-Err.refused) same (c.in-Err.ensures.refused asked))
 
 pub returns-in-Err-clause-headline : goal.returns-in-Err-clause-headline
 returns-in-Err-clause-headline g c = λ answers.
@@ -52,10 +55,37 @@ returns-in-Err-clause-headline g c = λ answers.
     let os = map outcome_view at.outcomes.items in
     let w = c.args.self.now.world in
     let new = c.apply.new.self.world in
-    let before = c.in-Err.ensures.never_won_back answers in
-    let reach = subst (λ (v : Running). IsTrue v.answers → IsReachable x12 v.world) c.self.view_is c.self.invariant.reached (at.invariant.never_won_back before) in
+    let before = all_back at.self.answers c.apply.new.self.answers c.in-Err.ensures.never_won_back answers in
+    let reach = subst (λ (v : Running). AllAnswer v → IsReachable x12 v.world) c.self.view_is c.self.invariant.reached (all_back c.args.self.now.answers at.self.answers at.invariant.never_won_back before) in
     headline_both c.reached.ensures.reached w new (take at.place es) os reach
-    (subst (EachRan w (take at.place es) os) (sym (c.in-Err.ensures.unchanged answers)) (at.invariant.each before))
+    (subst (EachRan w (take at.place es) os) (sym (c.in-Err.ensures.unchanged (asked_of_all c.apply.new.self answers (asked_by at.self.world.packets (event_view c.event-item.result))))) (at.invariant.each before))
+
+pub returns-in-Err-clause-refines : goal.returns-in-Err-clause-refines
+returns-in-Err-clause-refines g c = λ answers.
+    let at = c.loop-event in
+    let laws = c.reached.ensures.reached in
+    let w = c.args.self.now.world in
+    let before = all_back at.self.answers c.apply.new.self.answers c.in-Err.ensures.never_won_back answers in
+    let reach = subst (λ (v : Running). AllAnswer v → IsReachable x12 v.world) c.self.view_is c.self.invariant.reached (all_back c.args.self.now.answers at.self.answers at.invariant.never_won_back before) in
+    (laws.refines w reach, laws.refines c.apply.new.self.world (c.in-Err.ensures.reached answers))
+
+pub returns-in-Err-clause-outsiders : goal.returns-in-Err-clause-outsiders
+returns-in-Err-clause-outsiders g c = λ answers.
+    let at = c.loop-event in
+    let laws = c.reached.ensures.reached in
+    let w = c.args.self.now.world in
+    let before = all_back at.self.answers c.apply.new.self.answers c.in-Err.ensures.never_won_back answers in
+    let reach = subst (λ (v : Running). AllAnswer v → IsReachable x12 v.world) c.self.view_is c.self.invariant.reached (all_back c.args.self.now.answers at.self.answers at.invariant.never_won_back before) in
+    (λ more. (facts_later laws w reach more).outsiders, λ more. (facts_later laws c.apply.new.self.world (c.in-Err.ensures.reached answers) more).outsiders)
+
+pub returns-in-Err-clause-facts : goal.returns-in-Err-clause-facts
+returns-in-Err-clause-facts g c = λ answers.
+    let at = c.loop-event in
+    let laws = c.reached.ensures.reached in
+    let w = c.args.self.now.world in
+    let before = all_back at.self.answers c.apply.new.self.answers c.in-Err.ensures.never_won_back answers in
+    let reach = subst (λ (v : Running). AllAnswer v → IsReachable x12 v.world) c.self.view_is c.self.invariant.reached (all_back c.args.self.now.answers at.self.answers at.invariant.never_won_back before) in
+    (facts_later laws w reach, facts_later laws c.apply.new.self.world (c.in-Err.ensures.reached answers))
 
 pub loop-event-preserved : goal.loop-event-preserved
 loop-event-preserved g c =
@@ -73,11 +103,11 @@ loop-event-preserved g c =
     let is : item ≡ get_or events place item = subst (λ k. item ≡ get_or events k item) (sym at.invariant.place) c.event-item.is in
     let told : map outcome_view c.push_reserved.new.self.items ≡ map outcome_view os ++ outcome_view outcome ∷ [] = ap (map outcome_view) c.push_reserved.ensures.items ∙ map-append outcome_view os (outcome ∷ []) in
     record {
-      never_won_back = λ answers. at.invariant.never_won_back (c.in-Ok-apply.ensures.never_won_back answers);
+      never_won_back = λ k e. at.invariant.never_won_back k (c.in-Ok-apply.ensures.never_won_back k e);
       each = λ answers.
           subst (λ (xs : List EventOutcome). EachRan w (take (place + 1) es) xs new) (sym told)
           (subst (λ (xs : List Event). EachRan w xs (map outcome_view os ++ outcome_view outcome ∷ []) new) (sym (one_taken event_view events place item lt is))
-          (each_more w mid new (take place es) (map outcome_view os) (event_view item) (outcome_view outcome) (at.invariant.each (c.in-Ok-apply.ensures.never_won_back answers)) (c.in-Ok-apply.ensures.ran answers)));
+          (each_more w mid new (take place es) (map outcome_view os) (event_view item) (outcome_view outcome) (at.invariant.each (all_back at.self.answers c.apply.new.self.answers c.in-Ok-apply.ensures.never_won_back answers)) (c.in-Ok-apply.ensures.ran (asked_of_all c.apply.new.self answers (asked_by mid.packets (event_view item))))));
       counts = c.in-Ok-apply.ensures.store.ok ∙ at.invariant.counts;
       place = ap (λ n. n + 1) at.invariant.place;
       count = let a = at.invariant.count in let b = c.push_reserved.ensures.len in omega arith;
@@ -100,7 +130,7 @@ returns-clause-headline g c = λ answers.
     let at = c.loop-event in
     let es = map event_view c.args.events.now in
     let w = c.args.self.now.world in
-    let reach = subst (λ (v : Running). IsTrue v.answers → IsReachable x12 v.world) c.self.view_is c.self.invariant.reached (at.invariant.never_won_back answers) in
+    let reach = subst (λ (v : Running). AllAnswer v → IsReachable x12 v.world) c.self.view_is c.self.invariant.reached (all_back c.args.self.now.answers at.self.answers at.invariant.never_won_back answers) in
     headline_both c.reached.ensures.reached w at.self.world (take at.place es) (map outcome_view at.outcomes.items) reach (at.invariant.each answers)
 
 pub returns-clause-refines : goal.returns-clause-refines
@@ -109,7 +139,7 @@ returns-clause-refines g c = λ answers.
     let es = map event_view c.args.events.now in
     let w = c.args.self.now.world in
     let laws = c.reached.ensures.reached in
-    let reach = subst (λ (v : Running). IsTrue v.answers → IsReachable x12 v.world) c.self.view_is c.self.invariant.reached (at.invariant.never_won_back answers) in
+    let reach = subst (λ (v : Running). AllAnswer v → IsReachable x12 v.world) c.self.view_is c.self.invariant.reached (all_back c.args.self.now.answers at.self.answers at.invariant.never_won_back answers) in
     (laws.refines w reach, laws.refines at.self.world (reached_run laws w at.self.world (take at.place es) (map outcome_view at.outcomes.items) reach (at.invariant.each answers)))
 
 pub returns-clause-outsiders : goal.returns-clause-outsiders
@@ -118,7 +148,7 @@ returns-clause-outsiders g c = λ answers.
     let es = map event_view c.args.events.now in
     let w = c.args.self.now.world in
     let laws = c.reached.ensures.reached in
-    let reach = subst (λ (v : Running). IsTrue v.answers → IsReachable x12 v.world) c.self.view_is c.self.invariant.reached (at.invariant.never_won_back answers) in
+    let reach = subst (λ (v : Running). AllAnswer v → IsReachable x12 v.world) c.self.view_is c.self.invariant.reached (all_back c.args.self.now.answers at.self.answers at.invariant.never_won_back answers) in
     let later = reached_run laws w at.self.world (take at.place es) (map outcome_view at.outcomes.items) reach (at.invariant.each answers) in
     (λ more. (facts_later laws w reach more).outsiders, λ more. (facts_later laws at.self.world later more).outsiders)
 
@@ -128,6 +158,6 @@ returns-clause-facts g c = λ answers.
     let es = map event_view c.args.events.now in
     let w = c.args.self.now.world in
     let laws = c.reached.ensures.reached in
-    let reach = subst (λ (v : Running). IsTrue v.answers → IsReachable x12 v.world) c.self.view_is c.self.invariant.reached (at.invariant.never_won_back answers) in
+    let reach = subst (λ (v : Running). AllAnswer v → IsReachable x12 v.world) c.self.view_is c.self.invariant.reached (all_back c.args.self.now.answers at.self.answers at.invariant.never_won_back answers) in
     let later = reached_run laws w at.self.world (take at.place es) (map outcome_view at.outcomes.items) reach (at.invariant.each answers) in
     (facts_later laws w reach, facts_later laws at.self.world later)
