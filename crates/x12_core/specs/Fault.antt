@@ -36,6 +36,12 @@ IsRefusalOfAsk ask (IsHub h) (OfHub fault) = IsHubFault h (bytes_of_ask ask) fau
 IsRefusalOfAsk ask (IsStation s) (OfHub fault) = ⊥
 IsRefusalOfAsk ask (IsHub h) (OfStation fault) = ⊥
 
+-- it refuses, and not for want of memory of its own (L4): a hub copies nothing of what it is asked
+abbrev pub IsNotMemory : CoreFault → Type 0
+IsNotMemory code.Memory = ⊥
+IsNotMemory code.WrongKind = Unit {0}
+IsNotMemory (code.Node fault) = Unit {0}
+
 -- where a node says that its records failed, this count of their failures rose
 abbrev pub NodeWasCounted : NodeFault → (old new : ℕ) → Type 0
 NodeWasCounted (OfStation fault) old new = fault ≡ station.Store → CountRose old new

@@ -7,7 +7,7 @@ ghost use Rattle.x12_core.specs.Ask.{does_at, Comes, Do};
 ghost use Rattle.x12_core.specs.Bound.{hub_bound};
 ghost use Rattle.x12_core.specs.Core.{IsCoreRefusal};
 ghost use Rattle.x12_core.specs.Effect.{comes_to_hub, refusals, reports_taken};
-ghost use Rattle.x12_core.specs.Fault.{CountsCore};
+ghost use Rattle.x12_core.specs.Fault.{CountsCore, IsNotMemory};
 ghost use Rattle.x12_core.specs.Sends.{sends_view};
 ghost use Rattle.x12_core.specs.Packet.{PacketName, Refusal};
 ghost use Rattle.x12_core.specs.Submission.{listed};
@@ -67,6 +67,7 @@ fn act<H: HubRecords>(hub: &mut Hub<H>, site: Site, action: &Action) -> Result<S
     ensures submits { IfOk result (λ sends. listed sends ≡ []) }
     ensures refused { IsTrue hub.new.answers → IfErr result
         (IsCoreRefusal site.node (Do (action_view action.now)) (IsHub hub.old.hub)) }
+    ensures copies_nothing { IfErr result IsNotMemory }
     ensures unchanged { IsTrue hub.new.answers → OnErr result (hub.new.hub ≡ hub.old.hub) }
     ensures bounded { IfOk result (λ sends. length (sends_view sends)
         ≤ hub_bound (Do (action_view action.now)) hub.old.memory) }
@@ -111,6 +112,7 @@ fn take<H: HubRecords>(
     ensures submits { IfOk result (λ sends. listed sends ≡ []) }
     ensures refused { IsTrue hub.new.answers → IfErr result (λ f. (name : PacketName) →
         IsCoreRefusal node (Comes name from (load_view load.now) at.now) (IsHub hub.old.hub) f) }
+    ensures copies_nothing { IfErr result IsNotMemory }
     ensures unchanged { IsTrue hub.new.answers → OnErr result (hub.new.hub ≡ hub.old.hub) }
     ensures bounded { IfOk result (λ sends. length (sends_view sends) ≤ 2) }
     ensures store { CountsCore result hub.old.failures hub.new.failures }
@@ -148,6 +150,7 @@ pub fn ask_hub<H: HubRecords>(
     ensures submits { IfOk result (λ sends. listed sends ≡ []) }
     ensures refused { IsTrue hub.new.answers →
         IfErr result (IsCoreRefusal site.node (ref_view ask.now) (IsHub hub.old.hub)) }
+    ensures copies_nothing { IfErr result IsNotMemory }
     ensures unchanged { IsTrue hub.new.answers → OnErr result (hub.new.hub ≡ hub.old.hub) }
     ensures bounded { IfOk result (λ sends.
         length (sends_view sends) ≤ hub_bound (ref_view ask.now) hub.old.memory) }

@@ -13,6 +13,7 @@ use Rattle.x12_envelopes.specs.declared.header.Header.{Header}
 use Rattle.x12_envelopes.specs.Letter.{letter, space}
 use Rattle.x12_envelopes.specs.Byte.{zero_padded_number}
 use Rattle.x12_envelopes.specs.Segment.{Segment, text_of}
+use Rattle.x12_envelopes.specs.Writing.{texts}
 
 -- a transaction set: ST, and the segments between ST and SE
 pub record WrittenSet : Type 0 where
@@ -133,11 +134,11 @@ segment_view s = elements_view s.items
 -- a transaction set
 abbrev pub set_written : SetEnvelope → WrittenSet
 set_written s =
-    record { header = segment_view s.header; segments = map segment_view s.segments.now }
+    record { header = texts s.header.items; segments = map segment_view s.segments.now }
 
 -- a functional group
 abbrev pub group_written : GroupEnvelope → WrittenGroup
-group_written g = record { header = segment_view g.header; sets = map set_written g.sets.items }
+group_written g = record { header = texts g.header.items; sets = map set_written g.sets.items }
 
 -- an interchange
 abbrev pub envelope_view : Envelope → WrittenInterchange

@@ -1,6 +1,6 @@
 //! Segments as they are meant: from their elements, what reading tells of them from their bytes.
 
-ghost use Rattle.std.specs.Prelude.{◌≡◌, ◌-◌, length};
+ghost use Rattle.std.specs.Prelude.{◌≡◌, ◌-◌, length, map};
 ghost use Rattle.std.specs.List.{list_all};
 ghost use Rattle.x12_envelopes.specs.Element.{elements_are_ta1, elements_are_gs, elements_are_st};
 ghost use Rattle.x12_envelopes.specs.Envelope.{element_at, elements_view};
@@ -10,10 +10,11 @@ ghost use Rattle.x12_envelopes.specs.Fitting.{segment_ends_filled, segment_is_wr
 use crate::content::{have_st_form, have_ta1_form};
 use crate::delimiters::Delims;
 use crate::remaining::GroupHeader;
+use std::convert::AsSlice;
 
 /// An element of a segment by its place from 1, and the identifier at 0; empty where it is missing.
-pub(crate) fn nth_element<'a>(elements: &'a [Vec<u8>], n: usize) -> &'a [u8]
-    ensures { result.now ≡ element_at (elements_view elements.now) n }
+pub(crate) fn nth_element<E: AsSlice<u8>>(elements: &[E], n: usize) -> &[u8]
+    ensures { result.now ≡ element_at (map E.items elements.now) n }
 {
     match elements.get(n) {
         Some(element) => element.as_slice(),
@@ -22,8 +23,8 @@ pub(crate) fn nth_element<'a>(elements: &'a [Vec<u8>], n: usize) -> &'a [u8]
 }
 
 /// How many elements follow the identifier.
-fn element_count(elements: &[Vec<u8>]) -> usize
-    ensures { result ≡ length (elements_view elements.now) - 1 }
+fn element_count<E: AsSlice<u8>>(elements: &[E]) -> usize
+    ensures { result ≡ length (map E.items elements.now) - 1 }
 {
     elements.len().saturating_sub(1)
 }
@@ -45,8 +46,8 @@ pub(crate) fn are_ta1(elements: &[Vec<u8>]) -> bool
 
 /// Whether these are the eight elements of GS.
 #[tactic(auto, unfolding(crate::specs::Element::elements_are_gs))]
-pub(crate) fn are_gs(elements: &[Vec<u8>]) -> bool
-    ensures { result ≡ elements_are_gs (elements_view elements.now) }
+pub(crate) fn are_gs<E: AsSlice<u8>>(elements: &[E]) -> bool
+    ensures { result ≡ elements_are_gs (map E.items elements.now) }
 {
     let gs = GroupHeader {
         functional: nth_element(elements, 1),
@@ -63,15 +64,15 @@ pub(crate) fn are_gs(elements: &[Vec<u8>]) -> bool
 
 /// Whether these are an ST's elements: the first two of their form.
 #[tactic(auto, unfolding(crate::specs::Element::elements_are_st))]
-pub(crate) fn are_st(elements: &[Vec<u8>]) -> bool
-    ensures { result ≡ elements_are_st (elements_view elements.now) }
+pub(crate) fn are_st<E: AsSlice<u8>>(elements: &[E]) -> bool
+    ensures { result ≡ elements_are_st (map E.items elements.now) }
 {
     2 <= element_count(elements) && have_st_form(nth_element(elements, 1), nth_element(elements, 2))
 }
 
 /// Whether the last element isn't empty.
-fn ends_filled(elements: &[Vec<u8>]) -> bool
-    ensures { result ≡ segment_ends_filled (elements_view elements.now) }
+fn ends_filled<E: AsSlice<u8>>(elements: &[E]) -> bool
+    ensures { result ≡ segment_ends_filled (map E.items elements.now) }
 {
     match elements.last() {
         Some(element) => !element.as_slice().is_empty(),
@@ -96,11 +97,11 @@ fn is_element(delims: &Delims, element: &[u8]) -> bool
 }
 
 /// Whether each element can be written.
-fn are_elements(delims: &Delims, elements: &[Vec<u8>]) -> bool
-    ensures { result ≡ list_all (element_is_writable delims.now) (elements_view elements.now) }
+fn are_elements<E: AsSlice<u8>>(delims: &Delims, elements: &[E]) -> bool
+    ensures { result ≡ list_all (element_is_writable delims.now) (map E.items elements.now) }
 {
     for element in elements {
-        if !is_element(delims, element) {
+        if !is_element(delims, element.as_slice()) {
             return false;
         }
     }
@@ -109,8 +110,8 @@ fn are_elements(delims: &Delims, elements: &[Vec<u8>]) -> bool
 
 /// Whether a segment can be written: each of its elements can, and the last isn't empty.
 #[tactic(auto, unfolding(crate::specs::Fitting::segment_is_writable))]
-pub(crate) fn is_segment(delims: &Delims, elements: &[Vec<u8>]) -> bool
-    ensures { result ≡ segment_is_writable delims.now (elements_view elements.now) }
+pub(crate) fn is_segment<E: AsSlice<u8>>(delims: &Delims, elements: &[E]) -> bool
+    ensures { result ≡ segment_is_writable delims.now (map E.items elements.now) }
 {
     are_elements(delims, elements) && ends_filled(elements)
 }

@@ -1,5 +1,5 @@
 //! An interchange to be written (X12.5, X12.6): what its sender chooses. Its trailers, counts and
-//! written text follow from that. The segments of data are borrowed: writing copies each byte once.
+//! written text follow from that. What is written is borrowed: writing copies each byte once.
 
 use crate::delimiters::Delims;
 use crate::moment::Moment;
@@ -9,7 +9,7 @@ use crate::party::Party;
 #[derive(Debug, Drop)]
 pub struct SetEnvelope<'a> {
     /// ST: its identifier, then its elements.
-    pub header: Vec<Vec<u8>>,
+    pub header: Vec<&'a [u8]>,
     /// The segments between ST and SE, each its identifier, then its elements.
     pub segments: &'a [Vec<Vec<u8>>],
 }
@@ -18,7 +18,7 @@ pub struct SetEnvelope<'a> {
 #[derive(Debug, Drop)]
 pub struct GroupEnvelope<'a> {
     /// GS: its identifier, then its elements.
-    pub header: Vec<Vec<u8>>,
+    pub header: Vec<&'a [u8]>,
     /// The transaction sets, in their order.
     pub sets: Vec<SetEnvelope<'a>>,
 }

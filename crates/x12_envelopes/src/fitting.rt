@@ -8,6 +8,7 @@ ghost use Rattle.x12_envelopes.specs.Fitting.{field_is_writable, ta1_is_writable
 ghost use Rattle.x12_envelopes.specs.Fitting.{st_is_writable, data_is_writable, set_is_writable};
 ghost use Rattle.x12_envelopes.specs.Fitting.{group_is_writable, has_sizes, header_is_writable};
 ghost use Rattle.x12_envelopes.specs.Fitting.{interchange_is_within_limits, interchange_fits};
+ghost use Rattle.x12_envelopes.specs.Writing.{texts};
 
 use crate::content::{Kind, kind_named};
 use crate::delimiters::Delims;
@@ -46,8 +47,8 @@ fn is_ta1_segment(delims: &Delims, elements: &[Vec<u8>]) -> bool
 
 /// Whether a segment is a GS that can be written.
 #[tactic(auto, using(crate::proofs::ContentLemmas::gs_by_elements))]
-fn is_gs_segment(delims: &Delims, elements: &[Vec<u8>]) -> bool
-    ensures { result ≡ gs_is_writable delims.now (elements_view elements.now) }
+fn is_gs_segment(delims: &Delims, elements: &[&[u8]]) -> bool
+    ensures { result ≡ gs_is_writable delims.now (texts elements.now) }
 {
     is_segment(delims, elements)
         && matches!(kind_named(nth_element(elements, 0)), Kind::Gs)
@@ -56,8 +57,8 @@ fn is_gs_segment(delims: &Delims, elements: &[Vec<u8>]) -> bool
 
 /// Whether a segment is an ST that can be written.
 #[tactic(auto, using(crate::proofs::ContentLemmas::st_by_elements))]
-fn is_st_segment(delims: &Delims, elements: &[Vec<u8>]) -> bool
-    ensures { result ≡ st_is_writable delims.now (elements_view elements.now) }
+fn is_st_segment(delims: &Delims, elements: &[&[u8]]) -> bool
+    ensures { result ≡ st_is_writable delims.now (texts elements.now) }
 {
     is_segment(delims, elements)
         && matches!(kind_named(nth_element(elements, 0)), Kind::St)

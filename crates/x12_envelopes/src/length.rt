@@ -1,19 +1,20 @@
 //! How long an interchange is as it is written: its length, or `usize::MAX` where it is longer.
 
 ghost use Rattle.std.specs.Prelude.{◌≡◌, ◌^◌, ◌-◌, ◌∷◌, [], length, min, map, flat_map, decimal};
-ghost use Rattle.x12_envelopes.specs.Envelope.{set_segments, group_segments, elements_view};
-ghost use Rattle.x12_envelopes.specs.Envelope.{segment_view, set_written, group_written};
+ghost use Rattle.x12_envelopes.specs.Envelope.{set_segments, group_segments, segment_view};
+ghost use Rattle.x12_envelopes.specs.Envelope.{set_written, group_written};
 ghost use Rattle.x12_envelopes.specs.Segment.{segment_text, text_of};
 
 use crate::delimiters::Delims;
 use crate::element::nth_element;
 use crate::envelope::{GroupEnvelope, SetEnvelope};
 use itoa::Buffer;
+use std::convert::AsSlice;
 
 /// The length of a written segment.
-fn segment_len(delims: &Delims, elements: &[Vec<u8>]) -> usize
+fn segment_len<E: AsSlice<u8>>(delims: &Delims, elements: &[E]) -> usize
     ensures { result ≡ min (length (segment_text delims.now
-        (elements_view elements.now))) (2 ^ 64 - 1) }
+        (map E.items elements.now))) (2 ^ 64 - 1) }
 {
     let mut len = 0usize;
     for element in elements {

@@ -18,6 +18,7 @@ use crate::appending::{
 use crate::delimiters::Delims;
 use crate::element::nth_element;
 use crate::envelope::{Envelope, GroupEnvelope, SetEnvelope};
+use crate::fitting::written_len;
 use crate::header::{HEADER_BYTES, Header, STANDARD, VERSION};
 use crate::party::Party;
 use std::alloc::{AllocError, Global};
@@ -217,7 +218,7 @@ fn push_set(out: &mut Vec<u8>, delims: &Delims, set: &SetEnvelope<'_>) -> Result
     ensures written { OnOk result (out.new.items ≡
         out.old.items ++ text_of delims.now (set_segments (set_written set.now))) }
 {
-    push_owned(out, delims, &set.header)?;
+    append_segment(out, delims, &set.header)?;
     push_segments(out, delims, set.segments)?;
     push_trailer(
         out,
@@ -248,7 +249,7 @@ fn push_group(
     ensures written { OnOk result (out.new.items ≡
         out.old.items ++ text_of delims.now (group_segments (group_written group.now))) }
 {
-    push_owned(out, delims, &group.header)?;
+    append_segment(out, delims, &group.header)?;
     push_sets(out, delims, &group.sets)?;
     push_trailer(
         out,
@@ -291,7 +292,7 @@ pub fn write(alloc: Global, envelope: &Envelope<'_>) -> Result<Vec<u8>, AllocErr
         tas,
         groups,
     } = envelope;
-    let mut out = Vec::new(alloc);
+    let mut out = Vec::with_capacity(alloc, written_len(envelope))?;
     let header = Header {
         delims: *delims,
         sender: *sender,

@@ -1,5 +1,5 @@
 -- What one answer adds: the statements of what it finds, or an unmatched one.
-use Rattle.std.proofs.Common.{ℕ, ◌≡◌, ◌+◌, ◌<◌, ◌≤◌, ◌∙◌, ◌==◌, ◌&&◌, ◌||◌, ap, sym, subst, Bool, true, false, List, [], ◌∷◌, ◌++◌, map, find, flat_map, length, get_or, slice_get, take, Option, Some, None, is_some, Result, Ok, Err, OnOk, option_map, if◌then◌else◌, All, arith, refl}
+use Rattle.std.proofs.Common.{ℕ, ◌≡◌, ◌+◌, ◌<◌, ◌≤◌, ◌∙◌, ◌==◌, ◌&&◌, ◌||◌, ap, sym, subst, Bool, true, false, List, [], ◌∷◌, ◌++◌, map, find, flat_map, length, get_or, slice_get, take, Option, Some, None, Result, Ok, Err, OnOk, option_map, if◌then◌else◌, All, arith, refl}
 use Rattle.std.specs.List.{enumerate_from, list_any}
 use Rattle.std.specs.Str.{bytes_eq}
 use Rattle.std.proofs.lemmas.Bool.Decides.{nat_tests}
@@ -29,13 +29,13 @@ use Rattle.x12_outbound.specs.Ledger.{LedgerRow, row_view, submitted_by, AreInOr
 use Rattle.x12_outbound.specs.Group.{groups_of_row, HasGroup, LacksGroup}
 use Rattle.x12_outbound.specs.Statement.{all_told, told_of_group}
 use Rattle.x12_outbound.specs.Subject.{an_interchange, a_group}
-use Rattle.x12_outbound.specs.Matches.{origin, interchange_told, AddsStatements, rejection_evidence, functional_evidence}
+use Rattle.x12_outbound.specs.Matches.{origin, interchange_told, AddsStatements, MayReject, rejection_evidence, functional_evidence}
 use Rattle.x12_outbound.proofs.PlaceLemmas.{at_place_map}
 use Rattle.x12_numbers.proofs.Shelf.{find_at}
 use Rattle.x12_outbound.proofs.LedgerLemmas.{icns_rise}
 use Rattle.x12_outbound.proofs.ToldLemmas.{placed_more}
 use Rattle.x12_outbound.proofs.FoundLemmas.{groups_rise, none_found, one_found, keyed, kept_if, no_interchange, one_interchange}
-use Rattle.x12_outbound.proofs.EvidenceLemmas.{keyed_sets_are, group_are, group_named, interchange_are, interchange_named, adds, adds_unmatched}
+use Rattle.x12_outbound.proofs.EvidenceLemmas.{keyed_sets_are, group_are, group_named, interchange_are, interchange_named, adds}
 use Rattle.x12_outbound.proofs.SubjectLemmas.{interchange_names, group_names}
 
 -- what follows from the fact of an Ok
@@ -63,7 +63,12 @@ module _ (p : Parties) (e : Entry) (groups : List EntryGroup) (are : groups ≡ 
   unfolding interchange_told
   groups_all i new all so_far = so_far ∙ ap (λ gs. before ++ flat_map group_told_at (enumerate_from 1 gs)) (take_all i e.groups.items (subst (λ gs. length gs ≤ i) are all))
 
-module _ (p : Parties) (rows : List Row) (order : AreInOrder (submitted_by p.me (map row_view rows))) (old new : List (Option Statement)) where
+-- an element of a list that isn't empty stands for any
+pub with_one : {X P : Type 0} (xs : List X) (i : ℕ) → i < length xs → ((d : X) → P) → P
+with_one [] i within gives = absurd (omega (arith, within))
+with_one (x ∷ xs) i within gives = gives x
+
+module _ (p : Parties) (rows : List Row) (order : AreInOrder (submitted_by p.me (map row_view rows))) where
   -- a row among what the rows stand for
   row_at : (at : ℕ) (row : Row) → at < length rows → row ≡ get_or rows at row → slice_get (map row_view rows) at ≡ Some (row_view row)
   row_at at row within is =
@@ -82,42 +87,36 @@ module _ (p : Parties) (rows : List Row) (order : AreInOrder (submitted_by p.me 
   -- A TA1 that rejects.
 
   module _ (icn : ℕ) where
-    abbrev none_told : Option Submission → List Evidence
-    none_told o = or_unmatched (option_map (λ e. tells_each rejected (keyed_sets e)) o)
+    pub no_row : find (λ r. r.interchange.icn == icn) (map row_view rows) ≡ None → found_interchange (hubs_of p.hubs) (submitted_by p.me (map row_view rows)) p.from icn ≡ None
+    no_row none = no_interchange p.me (hubs_of p.hubs) p.from (map row_view rows) (icns_rise p.me (map row_view rows) order) icn none
 
-    pub has_none : find (λ r. r.interchange.icn == icn) (map row_view rows) ≡ None → is_some (found_interchange (hubs_of p.hubs) (submitted_by p.me (map row_view rows)) p.from icn) ≡ false
-    has_none none = ap is_some (no_interchange p.me (hubs_of p.hubs) p.from (map row_view rows) (icns_rise p.me (map row_view rows) order) icn none)
+    the_one : (at : ℕ) (row : Row) → at < length rows → row ≡ get_or rows at row → find (λ r. r.interchange.icn == icn) (map row_view rows) ≡ slice_get (map row_view rows) at
+        → found_interchange (hubs_of p.hubs) (submitted_by p.me (map row_view rows)) p.from icn
+        ≡ option_map (λ r. submission_of_entry p.me r.interchange) (kept_if (λ (r : LedgerRow). is_same_party r.interchange.receiver p.from || list_any (is_same_party p.from) (hubs_of p.hubs)) (row_view row))
+    the_one at row within row_is found = one_interchange p.me (hubs_of p.hubs) p.from (map row_view rows) (icns_rise p.me (map row_view rows) order) icn (row_view row) (found ∙ row_at at row within row_is)
 
-    pub rejects_none : new ≡ old ++ None ∷ [] → find (λ r. r.interchange.icn == icn) (map row_view rows) ≡ None → AddsStatements p (map row_view rows) (Some (an_interchange icn)) old new (rejection_evidence p (map row_view rows) icn)
-    rejects_none is none =
-        adds_unmatched p (map row_view rows) _ old new _ is (ap none_told (no_interchange p.me (hubs_of p.hubs) p.from (map row_view rows) (icns_rise p.me (map row_view rows) order) icn none))
+    pub may_not : (at : ℕ) (row : Row) → at < length rows → row ≡ get_or rows at row → find (λ r. r.interchange.icn == icn) (map row_view rows) ≡ slice_get (map row_view rows) at
+        → (is_same_party row.entry.partner p.from || list_any (is_same_party p.from) (hubs_of p.hubs)) ≡ false → found_interchange (hubs_of p.hubs) (submitted_by p.me (map row_view rows)) p.from icn ≡ None
+    may_not at row within row_is found other = the_one at row within row_is found ∙ rw other refl
 
-    module _ (at : ℕ) (row : Row) (within : at < length rows) (row_is : row ≡ get_or rows at row)
-        (found : find (λ r. r.interchange.icn == icn) (map row_view rows) ≡ slice_get (map row_view rows) at) where
-      the_one : found_interchange (hubs_of p.hubs) (submitted_by p.me (map row_view rows)) p.from icn
-          ≡ option_map (λ r. submission_of_entry p.me r.interchange) (kept_if (λ (r : LedgerRow). is_same_party r.interchange.receiver p.from || list_any (is_same_party p.from) (hubs_of p.hubs)) (row_view row))
-      the_one = one_interchange p.me (hubs_of p.hubs) p.from (map row_view rows) (icns_rise p.me (map row_view rows) order) icn (row_view row) (found ∙ row_at at row within row_is)
+    -- the row that may be rejected is found, and told of
+    module _ (at : ℕ) (found : MayReject p rows icn at) (row : Row) (row_is : row ≡ get_or rows at row) where
+      may_be : (is_same_party row.entry.partner p.from || list_any (is_same_party p.from) (hubs_of p.hubs)) ≡ true
+      may_be = ap (λ (r : Row). is_same_party r.entry.partner p.from || list_any (is_same_party p.from) (hubs_of p.hubs)) row_is ∙ found.may row
 
-      pub has_the_one : is_some (found_interchange (hubs_of p.hubs) (submitted_by p.me (map row_view rows)) p.from icn) ≡ (is_same_party row.entry.partner p.from || list_any (is_same_party p.from) (hubs_of p.hubs))
-      has_the_one = ap is_some the_one ∙ by (is_same_party row.entry.partner p.from || list_any (is_same_party p.from) (hubs_of p.hubs))
-        where
-          by : (b : Bool) → is_some (option_map (λ (r : LedgerRow). submission_of_entry p.me r.interchange) (if b then Some (row_view row) else None)) ≡ b
-          by true = refl
-          by false = refl
+      number_is : row.entry.icn ≡ icn
+      number_is = ap (λ (r : Row). r.entry.icn) row_is ∙ found.number row
 
-      pub rejects_other : (is_same_party row.entry.partner p.from || list_any (is_same_party p.from) (hubs_of p.hubs)) ≡ false → new ≡ old ++ None ∷ [] → AddsStatements p (map row_view rows) (Some (an_interchange icn)) old new (rejection_evidence p (map row_view rows) icn)
-      rejects_other other is =
-          let none : found_interchange (hubs_of p.hubs) (submitted_by p.me (map row_view rows)) p.from icn ≡ None = the_one ∙ rw other refl in
-          adds_unmatched p (map row_view rows) _ old new _ is (ap none_told none)
+      pub rejected_is : found_interchange (hubs_of p.hubs) (submitted_by p.me (map row_view rows)) p.from icn ≡ Some (submission_of_entry p.me (entry_row row.entry))
+      rejected_is = the_one at row found.within row_is found.found ∙ rw may_be refl
 
-      pub rejects_all : (is_same_party row.entry.partner p.from || list_any (is_same_party p.from) (hubs_of p.hubs)) ≡ true → row.entry.icn ≡ icn → new ≡ old ++ interchange_told p row.entry
-          → AddsStatements p (map row_view rows) (Some (an_interchange icn)) old new (rejection_evidence p (map row_view rows) icn)
+      pub rejects_all : (old new : List (Option Statement)) → new ≡ old ++ interchange_told p row.entry
+          → AddsStatements p (map row_view rows) (Some (an_interchange icn)) old new (rejection_evidence p (submitted_by p.me (map row_view rows)) icn)
       unfolding interchange_in
-      rejects_all may number is =
-          let one : found_interchange (hubs_of p.hubs) (submitted_by p.me (map row_view rows)) p.from icn ≡ Some (submission_of_entry p.me (entry_row row.entry)) = the_one ∙ rw may refl in
+      rejects_all old new is =
           adds p (map row_view rows) _ old new (interchange_told p row.entry) _ is
-          (interchange_are p row.entry ∙ sym (ap none_told one)) (rw (← number) (interchange_names p row.entry))
-          (interchange_named p (map row_view rows) row.entry (ap (option_map (λ (r : LedgerRow). r.interchange)) (interchange_at at row within row_is)) may)
+          (interchange_are p row.entry ∙ sym (ap (λ (o : Option Submission). or_unmatched (option_map (λ e. tells_each rejected (keyed_sets e)) o)) rejected_is)) (rw (← number_is) (interchange_names p row.entry))
+          (interchange_named p (map row_view rows) row.entry (ap (option_map (λ (r : LedgerRow). r.interchange)) (interchange_at at row found.within row_is)) may_be)
 
   -- A 997.
 
@@ -128,11 +127,8 @@ module _ (p : Parties) (rows : List Row) (order : AreInOrder (submitted_by p.me 
     abbrev group_tells : Option KeyedGroup → List Evidence
     group_tells o = or_unmatched (option_map (λ g. group_evidence a.code a.sets g.sets) o)
 
-    pub has_no_group : All (λ r. LacksGroup a.number (groups_of_row r)) rows → is_some (found_group (submitted_by p.me (map row_view rows)) p.from a) ≡ false
-    has_no_group lacks = ap is_some (none_found p.me p.from rows a lacks)
-
-    pub answers_none : All (λ r. LacksGroup a.number (groups_of_row r)) rows → new ≡ old ++ None ∷ [] → AddsStatements p (map row_view rows) (Some (a_group a.functional a.number)) old new (functional_evidence p (map row_view rows) a)
-    answers_none lacks is = adds_unmatched p (map row_view rows) _ old new _ is (ap group_tells (none_found p.me p.from rows a lacks))
+    pub no_group : All (λ r. LacksGroup a.number (groups_of_row r)) rows → found_group (submitted_by p.me (map row_view rows)) p.from a ≡ None
+    no_group lacks = none_found p.me p.from rows a lacks
 
     module _ (at index : ℕ) (row : Row) (group : EntryGroup) (within : at < length rows) (has : (d : Row) → HasGroup a.number index (groups_of_row (get_or rows at d)))
         (row_is : row ≡ get_or rows at row) (group_is : group ≡ get_or (groups_of_row row) index group) where
@@ -143,48 +139,38 @@ module _ (p : Parties) (rows : List Row) (order : AreInOrder (submitted_by p.me 
       here : HasGroup a.number index (groups_of_row row)
       here = subst (λ (r : Row). HasGroup a.number index (groups_of_row r)) (sym row_is) (has row)
 
-      number_is : group.gcn ≡ a.number
-      number_is = ap (λ (g : EntryGroup). g.gcn) group_is ∙ here.1 group
+      gcn_is : group.gcn ≡ a.number
+      gcn_is = ap (λ (g : EntryGroup). g.gcn) group_is ∙ here.1 group
 
-      pub has_the_group : is_some (found_group (submitted_by p.me (map row_view rows)) p.from a) ≡ (is_same_party row.entry.partner p.from && bytes_eq group.functional a.functional)
-      has_the_group =
-          let equal : (group.gcn == a.number) ≡ true = grind (arith, nat_tests, number_is) in
-          ap is_some the_group ∙ rw equal (by (is_same_party row.entry.partner p.from) (bytes_eq group.functional a.functional))
-        where
-          by : (b d : Bool) → is_some (if b then (if d && true then Some (keyed p.me row (1 + index, group)) else None) else None) ≡ (b && d)
-          by true true = refl
-          by true false = refl
-          by false d = refl
+      pub other_receiver : is_same_party row.entry.partner p.from ≡ false → found_group (submitted_by p.me (map row_view rows)) p.from a ≡ None
+      other_receiver other = the_group ∙ rw other refl
 
-      pub answers_other_receiver : is_same_party row.entry.partner p.from ≡ false → new ≡ old ++ None ∷ [] → AddsStatements p (map row_view rows) (Some (a_group a.functional a.number)) old new (functional_evidence p (map row_view rows) a)
-      answers_other_receiver other is =
-          let none : found_group (submitted_by p.me (map row_view rows)) p.from a ≡ None = the_group ∙ rw other refl in
-          adds_unmatched p (map row_view rows) _ old new _ is (ap group_tells none)
+      pub other_code : is_same_party row.entry.partner p.from ≡ true → bytes_eq group.functional a.functional ≡ false → found_group (submitted_by p.me (map row_view rows)) p.from a ≡ None
+      other_code same other = the_group ∙ rw (same, other) refl
 
-      pub answers_other_code : is_same_party row.entry.partner p.from ≡ true → bytes_eq group.functional a.functional ≡ false → new ≡ old ++ None ∷ [] → AddsStatements p (map row_view rows) (Some (a_group a.functional a.number)) old new (functional_evidence p (map row_view rows) a)
-      answers_other_code same other is =
-          let none : found_group (submitted_by p.me (map row_view rows)) p.from a ≡ None = the_group ∙ rw (same, other) refl in
-          adds_unmatched p (map row_view rows) _ old new _ is (ap group_tells none)
+      module _ (same : is_same_party row.entry.partner p.from ≡ true) (code : bytes_eq group.functional a.functional ≡ true) where
+        pub group_found : found_group (submitted_by p.me (map row_view rows)) p.from a ≡ Some (keyed p.me row (1 + index, group))
+        group_found =
+            let equal : (group.gcn == a.number) ≡ true = grind (arith, nat_tests, gcn_is) in
+            the_group ∙ rw (same, code, equal) refl
 
-      pub answers_group : (functional : List ℕ) (number place : ℕ) (sets : List EntrySet) (listed : List (SetNo × AnswerCode)) → is_same_party row.entry.partner p.from ≡ true → bytes_eq group.functional a.functional ≡ true
-          → functional ≡ a.functional → number ≡ a.number → a.sets ≡ map set_answer_view listed → place ≡ index + 1 → sets ≡ group.sets.items
-          → new ≡ old ++ told_of_group (origin p row.entry (Group functional number) place) a.code sets listed
-          → AddsStatements p (map row_view rows) (Some (a_group a.functional a.number)) old new (functional_evidence p (map row_view rows) a)
-      unfolding interchange_in
-      answers_group functional number place sets listed same code functional_is number_same listed_is place_is sets_are is =
-          let o = origin p row.entry (Group functional number) place in
-          let next : 1 + index ≡ place = omega (arith, place_is) in
-          let equal : (group.gcn == a.number) ≡ true = grind (arith, nat_tests, number_is) in
-          let first : found_group (submitted_by p.me (map row_view rows)) p.from a ≡ Some (keyed p.me row (1 + index, group)) = the_group ∙ rw (same, code, equal) refl in
-          let found : found_group (submitted_by p.me (map row_view rows)) p.from a ≡ Some (keyed p.me row (place, group)) = first ∙ ap (λ (n : ℕ). Some (keyed p.me row (n, group))) next in
-          let functional_same : bytes_eq functional group.functional ≡ true = (bytes_eq-Decides functional group.functional).1 (functional_is ∙ sym ((bytes_eq-Decides group.functional a.functional).0 code)) in
-          adds p (map row_view rows) _ old new (told_of_group o a.code group.sets.items listed) _
-          (is ∙ ap (λ (s : List EntrySet). old ++ told_of_group o a.code s listed) sets_are)
-          (group_are o a.code group.sets.items listed ∙ ap (λ keyed_sets. group_evidence a.code (map set_answer_view listed) keyed_sets) (sym (keyed_sets_are p.me (entry_row row.entry) o group refl refl))
-          ∙ ap (λ answers. group_evidence a.code answers (keyed p.me row (place, group)).sets) (sym listed_is) ∙ sym (ap group_tells found))
-          (rw (← functional_is, ← number_same) (group_names o functional number refl a.code group.sets.items listed))
-          (group_named p (map row_view rows) (entry_row row.entry) group o refl (ap (option_map (λ (r : LedgerRow). r.interchange)) (interchange_at at row within row_is))
-          (at_place_map group_row (groups_of_row row) place index group (sym place_is) here.0 group_is) (functional_same, number_same ∙ sym number_is, same) a.code listed)
+        pub answers_group : (old new : List (Option Statement)) (functional : List ℕ) (number place : ℕ) (sets : List EntrySet) (listed : List (SetNo × AnswerCode))
+            → functional ≡ a.functional → number ≡ a.number → a.sets ≡ map set_answer_view listed → place ≡ index + 1 → sets ≡ group.sets.items
+            → new ≡ old ++ told_of_group (origin p row.entry (Group functional number) place) a.code sets listed
+            → AddsStatements p (map row_view rows) (Some (a_group a.functional a.number)) old new (functional_evidence p (submitted_by p.me (map row_view rows)) a)
+        unfolding interchange_in
+        answers_group old new functional number place sets listed functional_is number_same listed_is place_is sets_are is =
+            let o = origin p row.entry (Group functional number) place in
+            let next : 1 + index ≡ place = omega (arith, place_is) in
+            let found : found_group (submitted_by p.me (map row_view rows)) p.from a ≡ Some (keyed p.me row (place, group)) = group_found ∙ ap (λ (n : ℕ). Some (keyed p.me row (n, group))) next in
+            let functional_same : bytes_eq functional group.functional ≡ true = (bytes_eq-Decides functional group.functional).1 (functional_is ∙ sym ((bytes_eq-Decides group.functional a.functional).0 code)) in
+            adds p (map row_view rows) _ old new (told_of_group o a.code group.sets.items listed) _
+            (is ∙ ap (λ (s : List EntrySet). old ++ told_of_group o a.code s listed) sets_are)
+            (group_are o a.code group.sets.items listed ∙ ap (λ keyed_sets. group_evidence a.code (map set_answer_view listed) keyed_sets) (sym (keyed_sets_are p.me (entry_row row.entry) o group refl refl))
+            ∙ ap (λ answers. group_evidence a.code answers (keyed p.me row (place, group)).sets) (sym listed_is) ∙ sym (ap group_tells found))
+            (rw (← functional_is, ← number_same) (group_names o functional number refl a.code group.sets.items listed))
+            (group_named p (map row_view rows) (entry_row row.entry) group o refl (ap (option_map (λ (r : LedgerRow). r.interchange)) (interchange_at at row within row_is))
+            (at_place_map group_row (groups_of_row row) place index group (sym place_is) here.0 group_is) (functional_same, number_same ∙ sym gcn_is, same) a.code listed)
 
 -- one answer more
 pub evidence_more : (hubs : List Party) (sent : List Submission) (from : Party) (answers : List Answer) (i : ℕ) (answer : Answer) → i < length answers → answer ≡ get_or answers i answer

@@ -2,71 +2,65 @@
 use Rattle.std.proofs.Common.{ℕ, ◌≡◌, ◌∙◌, ◌==◌, ◌&&◌, ap, sym, Bool, true, false, List, [], ◌∷◌, ◌++◌, map, filter, find, flat_map, Option, Some, None, is_some, option_map, option_and_then, if◌then◌else◌, refl}
 use Rattle.std.specs.Option.{option_or}
 use Rattle.std.specs.Str.{bytes_eq}
-use Rattle.std.proofs.lemmas.List.{map-append}
+use Rattle.std.proofs.lemmas.List.{map-append, append-nil}
 use Rattle.std.proofs.lemmas.List.Elements.{filter-append}
 use Rattle.std.proofs.lemmas.List.Folds.{find-append}
 use Rattle.std.proofs.lemmas.Grind.{flat_map-append}
 use Rattle.x12_envelopes.specs.declared.party.Party.{Party}
-use Rattle.x12_envelopes.specs.declared.shape.AcknowledgmentCode.TheVariants as interchange
 use Rattle.x12_judge.specs.Agreement.{is_same_party}
-use Rattle.x12_acks.specs.Answer.{Acknowledgment, of_interchange, of_group, unclear, FunctionalGroupAnswer}
+use Rattle.x12_acks.specs.Answer.{FunctionalGroupAnswer}
 use Rattle.x12_acks.specs.Submission.{Submission, TransactionSetKey, KeyedGroup, keyed_groups, keyed_sets}
 use Rattle.x12_acks.specs.Key.{key_view}
-use Rattle.x12_acks.specs.Evidence.{Evidence, rejected, tells_each, group_evidence, is_acknowledged_by, found_interchange, found_group, groups_to, or_unmatched, answer_evidence}
+use Rattle.x12_acks.specs.Evidence.{Evidence, unmatched, rejected, tells_each, group_evidence, is_acknowledged_by, found_interchange, found_group, groups_to, or_unmatched}
 use Rattle.x12_outbound.specs.Hubs.{hubs_of}
 use Rattle.x12_outbound.specs.declared.evidence.Statement.{Statement}
 use Rattle.x12_outbound.specs.declared.matches.Parties.{Parties}
 use Rattle.x12_outbound.specs.Entry.{InterchangeRow}
 use Rattle.x12_outbound.specs.Piece.{set_statement_view}
 use Rattle.x12_outbound.specs.Matching.{SetNumbers}
-use Rattle.x12_outbound.specs.Subject.{Subject, subject_of, subject_for}
+use Rattle.x12_outbound.specs.Subject.{Subject, subject_for}
 use Rattle.x12_outbound.specs.Statement.{evidence_told, subject_told}
-use Rattle.x12_outbound.specs.Ledger.{LedgerRow, submitted_by, interchange_in, numbers_in, numbers_in_rows}
+use Rattle.x12_outbound.specs.Ledger.{LedgerRow, interchange_in, numbers_in, numbers_in_rows}
 use Rattle.x12_outbound.specs.Plan.{is_about_set, names_its_set}
-use Rattle.x12_outbound.specs.Matches.{statement_is_named, AreNamed, numbers_in_both, AreNamedInBoth, AreApart, AddsStatements, AddsInBoth, is_found}
+use Rattle.x12_outbound.specs.Matches.{statement_is_named, AreNamed, numbers_in_both, AreNamedInBoth, AreApart, AddsStatements, AddsInBoth, rejection_evidence, functional_evidence}
 
--- what is found in two lists is found in the first, or else in the second
-first_one : {X Y : Type 0} (f : Option X → Y) (a b c : Option X) → c ≡ option_or a b → is_some a ≡ true → f c ≡ f a
-first_one f (Some x) b c is some = ap f is
-first_one f None b c is some = absurd (let no : ⊥ = cc in no)
-
-second_one : {X Y : Type 0} (f : Option X → Y) (a b c : Option X) → c ≡ option_or a b → is_some a ≡ false → f c ≡ f b
-second_one f (Some x) b c is none = absurd (let no : ⊥ = cc in no)
-second_one f None b c is none = ap f is
-
-module _ (hubs : List Party) (near far : List Submission) (from : Party) where
-  interchange_of_both : (icn : ℕ) → found_interchange hubs (near ++ far) from icn ≡ option_or (found_interchange hubs near from icn) (found_interchange hubs far from icn)
-  interchange_of_both icn = find-append (is_acknowledged_by hubs from icn) near far
-
-  group_of_both : (a : FunctionalGroupAnswer) → found_group (near ++ far) from a ≡ option_or (found_group near from a) (found_group far from a)
-  group_of_both a =
-      let wanted = λ (g : KeyedGroup). bytes_eq g.functional a.functional && g.number == a.number in
-      let to = λ (e : Submission). is_same_party e.receiver from in
-      ap (λ es. find wanted (flat_map keyed_groups es)) (filter-append to near far)
-      ∙ ap (find wanted) (flat_map-append keyed_groups (filter to near) (filter to far))
-      ∙ find-append wanted (groups_to near from) (groups_to far from)
-
+-- what is found in the first of two lists is what is found in both; and where it is in none, the second
+module _ (p : Parties) (near far : List Submission) where
   abbrev rejection : Option Submission → List Evidence
   rejection o = or_unmatched (option_map (λ e. tells_each rejected (keyed_sets e)) o)
 
-  abbrev acknowledgment : FunctionalGroupAnswer → Option KeyedGroup → List Evidence
-  acknowledgment a o = or_unmatched (option_map (λ g. group_evidence a.code a.sets g.sets) o)
+  interchange_of_both : (icn : ℕ) → found_interchange (hubs_of p.hubs) (near ++ far) p.from icn ≡ option_or (found_interchange (hubs_of p.hubs) near p.from icn) (found_interchange (hubs_of p.hubs) far p.from icn)
+  interchange_of_both icn = find-append (is_acknowledged_by (hubs_of p.hubs) p.from icn) near far
 
-  pub evidence_here : (a : Acknowledgment) → is_found hubs near from a ≡ true → answer_evidence hubs (near ++ far) from a ≡ answer_evidence hubs near from a
-  unfolding is_found answer_evidence
-  evidence_here (of_interchange icn interchange.Rejected note) found = first_one rejection _ _ _ (interchange_of_both icn) found
-  evidence_here (of_interchange icn interchange.Accepted note) found = refl
-  evidence_here (of_interchange icn interchange.ErrorsNoted note) found = refl
-  evidence_here (of_group a) found = first_one (acknowledgment a) _ _ _ (group_of_both a) found
-  evidence_here unclear found = refl
+  pub rejection_here : (icn : ℕ) (e : Submission) → found_interchange (hubs_of p.hubs) near p.from icn ≡ Some e → rejection_evidence p (near ++ far) icn ≡ rejection_evidence p near icn
+  rejection_here icn e is = ap rejection (interchange_of_both icn ∙ ap (λ o. option_or o (found_interchange (hubs_of p.hubs) far p.from icn)) is ∙ sym is)
 
-  pub evidence_there : (a : Acknowledgment) → is_found hubs near from a ≡ false → answer_evidence hubs (near ++ far) from a ≡ answer_evidence hubs far from a
-  unfolding is_found answer_evidence
-  evidence_there (of_interchange icn interchange.Rejected note) none = second_one rejection _ _ _ (interchange_of_both icn) none
-  evidence_there (of_interchange icn interchange.Accepted note) none = refl
-  evidence_there (of_interchange icn interchange.ErrorsNoted note) none = refl
-  evidence_there (of_group a) none = second_one (acknowledgment a) _ _ _ (group_of_both a) none
-  evidence_there unclear none = refl
+  pub rejection_there : (icn : ℕ) → found_interchange (hubs_of p.hubs) near p.from icn ≡ None → rejection_evidence p (near ++ far) icn ≡ rejection_evidence p far icn
+  rejection_there icn none = ap rejection (interchange_of_both icn ∙ ap (λ o. option_or o (found_interchange (hubs_of p.hubs) far p.from icn)) none)
+
+  pub no_rejection : (icn : ℕ) → found_interchange (hubs_of p.hubs) far p.from icn ≡ None → rejection_evidence p far icn ≡ unmatched ∷ []
+  no_rejection icn none = ap rejection none
+
+  module _ (a : FunctionalGroupAnswer) where
+    abbrev acknowledgment : Option KeyedGroup → List Evidence
+    acknowledgment o = or_unmatched (option_map (λ g. group_evidence a.code a.sets g.sets) o)
+
+    group_of_both : found_group (near ++ far) p.from a ≡ option_or (found_group near p.from a) (found_group far p.from a)
+    group_of_both =
+        let wanted = λ (g : KeyedGroup). bytes_eq g.functional a.functional && g.number == a.number in
+        let to = λ (e : Submission). is_same_party e.receiver p.from in
+        ap (λ es. find wanted (flat_map keyed_groups es)) (filter-append to near far)
+        ∙ ap (find wanted) (flat_map-append keyed_groups (filter to near) (filter to far))
+        ∙ find-append wanted (groups_to near p.from) (groups_to far p.from)
+
+    pub functional_here : (g : KeyedGroup) → found_group near p.from a ≡ Some g → functional_evidence p (near ++ far) a ≡ functional_evidence p near a
+    functional_here g is = ap acknowledgment (group_of_both ∙ ap (λ o. option_or o (found_group far p.from a)) is ∙ sym is)
+
+    pub functional_there : found_group near p.from a ≡ None → functional_evidence p (near ++ far) a ≡ functional_evidence p far a
+    functional_there none = ap acknowledgment (group_of_both ∙ ap (λ o. option_or o (found_group far p.from a)) none)
+
+    pub no_functional : found_group far p.from a ≡ None → functional_evidence p far a ≡ unmatched ∷ []
+    no_functional none = ap acknowledgment none
 
 -- the numbers of a set, where its interchange is there and where it isn't
 no_numbers : (me : Party) (rows : List LedgerRow) (key : TransactionSetKey) → interchange_in rows key.icn ≡ None → numbers_in_rows me rows key ≡ None
@@ -113,27 +107,31 @@ module _ (p : Parties) (rows closed : List LedgerRow) where
   all_there apart [] named = tt
   all_there apart (s ∷ ss) named = (named_there apart s named.0, all_there apart ss named.1)
 
-  -- what one answer adds, of the one list or of the other
-  module _ (old new : List (Option Statement)) (a : Acknowledgment) where
-    pub adds_here : is_found (hubs_of p.hubs) (submitted_by p.me rows) p.from a ≡ true → AddsStatements p rows (subject_of a) old new (answer_evidence (hubs_of p.hubs) (submitted_by p.me rows) p.from a)
-        → AddsInBoth p rows closed (subject_of a) old new (answer_evidence (hubs_of p.hubs) (submitted_by p.me rows ++ submitted_by p.me closed) p.from a)
-    adds_here found adds = record {
+  -- what one answer adds, of the one list or of the other, or of none
+  module _ (name : Option Subject) (old new : List (Option Statement)) (evidence both : List Evidence) (same : both ≡ evidence) where
+    pub adds_here : AddsStatements p rows name old new evidence → AddsInBoth p rows closed name old new both
+    adds_here adds = record {
       more = adds.more;
       is = adds.is;
-      told = adds.told ∙ sym (evidence_here (hubs_of p.hubs) (submitted_by p.me rows) (submitted_by p.me closed) p.from a found);
-      names = adds.names ∙ ap (map (subject_for (subject_of a))) (sym (evidence_here (hubs_of p.hubs) (submitted_by p.me rows) (submitted_by p.me closed) p.from a found));
+      told = adds.told ∙ sym same;
+      names = adds.names ∙ ap (map (subject_for name)) (sym same);
       named = all_here adds.more adds.named;
     }
 
-    pub adds_there : AreApart rows closed → is_found (hubs_of p.hubs) (submitted_by p.me rows) p.from a ≡ false → AddsStatements p closed (subject_of a) old new (answer_evidence (hubs_of p.hubs) (submitted_by p.me closed) p.from a)
-        → AddsInBoth p rows closed (subject_of a) old new (answer_evidence (hubs_of p.hubs) (submitted_by p.me rows ++ submitted_by p.me closed) p.from a)
-    adds_there apart none adds = record {
+    pub adds_there : AreApart rows closed → AddsStatements p closed name old new evidence → AddsInBoth p rows closed name old new both
+    adds_there apart adds = record {
       more = adds.more;
       is = adds.is;
-      told = adds.told ∙ sym (evidence_there (hubs_of p.hubs) (submitted_by p.me rows) (submitted_by p.me closed) p.from a none);
-      names = adds.names ∙ ap (map (subject_for (subject_of a))) (sym (evidence_there (hubs_of p.hubs) (submitted_by p.me rows) (submitted_by p.me closed) p.from a none));
+      told = adds.told ∙ sym same;
+      names = adds.names ∙ ap (map (subject_for name)) (sym same);
       named = all_there apart adds.more adds.named;
     }
+
+  pub adds_unmatched : (name : Option Subject) (old new : List (Option Statement)) (both : List Evidence) → new ≡ old ++ None ∷ [] → both ≡ unmatched ∷ [] → AddsInBoth p rows closed name old new both
+  adds_unmatched name old new both is none = record { more = None ∷ []; is = is; told = sym none; names = ap (map (subject_for name)) (sym none); named = (refl, tt) }
+
+  pub adds_nothing : (name : Option Subject) (old : List (Option Statement)) → AddsInBoth p rows closed name old old []
+  adds_nothing name old = record { more = []; is = sym (append-nil old); told = refl; names = refl; named = tt }
 
   -- and one answer after the other
   both_named : (ss ts : List (Option Statement)) → AreNamedInBoth p rows closed ss → AreNamedInBoth p rows closed ts → AreNamedInBoth p rows closed (ss ++ ts)

@@ -4,7 +4,7 @@ use Rattle.std.specs.List.{enumerate_from, list_any, AllByRecursion}
 use Rattle.std.specs.Str.{bytes_eq}
 use Rattle.std.proofs.lemmas.Bool.{cases_Bool}
 use Rattle.std.proofs.lemmas.Bool.Decides.{nat_tests}
-use Rattle.std.proofs.lemmas.List.{map-append, append-nil}
+use Rattle.std.proofs.lemmas.List.{map-append}
 use Rattle.std.proofs.lemmas.Slice.Eq.{bytes_eq-Decides}
 use Rattle.x12_envelopes.specs.declared.party.Party.{Party}
 use Rattle.x12_envelopes.specs.declared.shape.SetNo.{SetNo}
@@ -249,10 +249,3 @@ interchange_named p rows e stands may =
 pub adds : (p : Parties) (rows : List LedgerRow) (name : Option Subject) (old new more : List (Option Statement)) (evidence : List Evidence) → new ≡ old ++ more → map evidence_told more ≡ evidence
     → map subject_told more ≡ map (subject_for name) (map evidence_told more) → AreNamed p rows more → AddsStatements p rows name old new evidence
 adds p rows name old new more evidence is told_of_set names named = record { more = more; is = is; told = told_of_set; names = names ∙ ap (map (subject_for name)) told_of_set; named = named }
-
-pub adds_unmatched : (p : Parties) (rows : List LedgerRow) (name : Option Subject) (old new : List (Option Statement)) (evidence : List Evidence) → new ≡ old ++ None ∷ [] → evidence ≡ unmatched ∷ []
-    → AddsStatements p rows name old new evidence
-adds_unmatched p rows name old new evidence is told_of_set = adds p rows name old new (None ∷ []) evidence is (sym told_of_set) refl (refl, tt)
-
-pub adds_nothing : (p : Parties) (rows : List LedgerRow) (name : Option Subject) (old : List (Option Statement)) → AddsStatements p rows name old old []
-adds_nothing p rows name old = record { more = []; is = sym (append-nil old); told = refl; names = refl; named = tt }

@@ -1,24 +1,28 @@
 -- What answers state of the interchanges and functional groups of a ledger.
-use Rattle.std.specs.Prelude.{ℕ, ◌≡◌, Bool, true, List, ◌++◌, map, flat_map, Option, Some, None, option_map, is_some, false}
-use Rattle.std.specs.List.{enumerate_from, AllByRecursion}
+use Rattle.std.specs.Prelude.{ℕ, ◌≡◌, ◌<◌, ◌==◌, ◌||◌, Bool, true, List, ◌++◌, map, find, flat_map, length, bytes_eq, slice_get, slice_index_or, Option, Some, None, option_map, is_some}
+use Rattle.std.specs.List.{enumerate_from, list_any, AllByRecursion}
 use Rattle.std.specs.Option.{option_or}
+use Rattle.x12_judge.specs.Agreement.{is_same_party}
 use Rattle.x12_acks.specs.Evidence.{Evidence, rejected, tells_each, group_evidence, found_interchange, found_group, or_unmatched}
 use Rattle.x12_acks.specs.Submission.{Submission, TransactionSetKey, keyed_sets}
-use Rattle.x12_acks.specs.Answer.{Acknowledgment, of_interchange, of_group, unclear, FunctionalGroupAnswer, set_answer_view}
+use Rattle.x12_acks.specs.Answer.{FunctionalGroupAnswer, set_answer_view}
 use Rattle.x12_envelopes.specs.declared.party.Party.{Party}
 use Rattle.x12_acks.specs.Key.{key_view}
 use Rattle.x12_outbound.specs.declared.entry.Entry.{Entry}
+use Rattle.x12_outbound.specs.declared.entry.EntryGroup.{EntryGroup}
 use Rattle.x12_outbound.specs.declared.fate.FinalFate.TheVariants.{Rejected}
 use Rattle.x12_outbound.specs.declared.evidence.Statement.{Statement}
+use Rattle.x12_outbound.specs.declared.row.Row.{Row}
 use Rattle.x12_outbound.specs.declared.statement.NamedBy.{NamedBy}
 use Rattle.x12_outbound.specs.declared.statement.NamedBy.TheVariants.{Interchange}
 use Rattle.x12_outbound.specs.declared.statement.Origin.{Origin}
 use Rattle.x12_outbound.specs.declared.matches.GroupAnswer.{GroupAnswer}
 use Rattle.x12_outbound.specs.declared.matches.Parties.{Parties}
+use Rattle.x12_outbound.specs.Group.{HasGroup, groups_of_row}
 use Rattle.x12_outbound.specs.Hubs.{hubs_of}
 use Rattle.x12_outbound.specs.Piece.{set_statement_view}
 use Rattle.x12_outbound.specs.Matching.{SetNumbers}
-use Rattle.x12_outbound.specs.Ledger.{LedgerRow, submitted_by, interchange_in, numbers_in_rows}
+use Rattle.x12_outbound.specs.Ledger.{LedgerRow, row_view, interchange_in, numbers_in_rows}
 use Rattle.x12_outbound.specs.Plan.{is_about_set, names_its_set}
 use Rattle.x12_outbound.specs.Subject.{Subject, subject_for}
 use Rattle.x12_outbound.specs.Statement.{all_told, evidence_told, subject_told}
@@ -91,21 +95,39 @@ pub record AddsInBoth (p : Parties) (rows closed : List LedgerRow) (name : Optio
   pub names : map subject_told more ≡ map (subject_for name) evidence
   pub named : AreNamedInBoth p rows closed more
 
--- an answer finds what it is about among these submissions
-unfoldable pub is_found : List Party → List Submission → Party → Acknowledgment → Bool
-is_found hubs submissions from (of_interchange icn code note) =
-    is_some (found_interchange hubs submissions from icn)
-is_found hubs submissions from (of_group a) = is_some (found_group submissions from a)
-is_found hubs submissions from unclear = false
+-- the row at this place has this number, and the one who answers may reject its interchange
+pub record MayReject (p : Parties) (rows : List Row) (icn at : ℕ) : Type 0 where
+  pub within : at < length rows
+  pub number : (d : Row) → (slice_index_or rows at d).entry.icn ≡ icn
+  pub found :
+      find (λ r. r.interchange.icn == icn) (map row_view rows)
+      ≡ slice_get (map row_view rows) at
+  pub may :
+      (d : Row) →
+      (is_same_party (slice_index_or rows at d).entry.partner p.from
+      || list_any (is_same_party p.from) (hubs_of p.hubs))
+      ≡ true
 
--- the evidence of a TA1 that rejects
-abbrev pub rejection_evidence : Parties → List LedgerRow → ℕ → List Evidence
-rejection_evidence p rows icn =
+-- the row at a place has a group of these numbers at this index, and the one who answers received it
+pub record WasReceived (p : Parties) (rows : List Row) (a : FunctionalGroupAnswer) (at index : ℕ) :
+    Type 0 where
+  pub within : at < length rows
+  pub group : (d : Row) → HasGroup a.number index (groups_of_row (slice_index_or rows at d))
+  pub receiver : (d : Row) → is_same_party (slice_index_or rows at d).entry.partner p.from ≡ true
+  pub functional :
+      (d : Row) (e : EntryGroup) →
+      bytes_eq (slice_index_or (groups_of_row (slice_index_or rows at d)) index e).functional
+      a.functional
+      ≡ true
+
+-- the evidence of a TA1 that rejects, for the sender of these interchanges
+abbrev pub rejection_evidence : Parties → List Submission → ℕ → List Evidence
+rejection_evidence p sent icn =
     or_unmatched (option_map (λ e. tells_each rejected (keyed_sets e))
-    (found_interchange (hubs_of p.hubs) (submitted_by p.me rows) p.from icn))
+    (found_interchange (hubs_of p.hubs) sent p.from icn))
 
 -- the evidence of a 997
-abbrev pub functional_evidence : Parties → List LedgerRow → FunctionalGroupAnswer → List Evidence
-functional_evidence p rows a =
+abbrev pub functional_evidence : Parties → List Submission → FunctionalGroupAnswer → List Evidence
+functional_evidence p sent a =
     or_unmatched (option_map (λ g. group_evidence a.code a.sets g.sets)
-    (found_group (submitted_by p.me rows) p.from a))
+    (found_group sent p.from a))

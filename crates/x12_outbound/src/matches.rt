@@ -1,21 +1,23 @@
 //! Which submitted interchange or functional group an answer is about, and what the answers state.
-ghost use Rattle.std.specs.Prelude.{◌≡◌, ◌++◌, ◌∷◌, [], ◌||◌, Some, None, IfOk, OnOk, map, bytes_eq};
-ghost use Rattle.std.specs.Prelude.{is_some};
+ghost use Rattle.std.specs.Prelude.{◌≡◌, ◌<◌, ◌+◌, ◌++◌, ◌∷◌, [], ◌||◌, Some, None, OnOk, map};
+ghost use Rattle.std.specs.Prelude.{IfOk, IfSome, IfNone, bytes_eq, length, slice_index_or};
 ghost use Rattle.std.specs.List.{list_any};
-ghost use Rattle.x12_acks.specs.Answer.{answer_view, FunctionalGroupAnswer};
+ghost use Rattle.x12_acks.specs.Answer.{answer_view};
 ghost use Rattle.x12_judge.specs.Agreement.{is_same_party};
 ghost use Rattle.x12_acks.specs.Evidence.{answer_evidence, evidence_of};
 ghost use Rattle.x12_acks.specs.Evidence.{found_interchange, found_group};
+ghost use Rattle.x12_outbound.specs.declared.entry.EntryGroup.{EntryGroup};
+ghost use Rattle.x12_outbound.specs.declared.statement.NamedBy.TheVariants.{Group};
 ghost use Rattle.x12_outbound.specs.Entry.{entry_row, submission_of_entry, IsSendable};
 ghost use Rattle.x12_outbound.specs.Ledger.{row_view, submitted_by, AreInOrder};
 ghost use Rattle.x12_outbound.specs.Hubs.{hubs_of};
 ghost use Rattle.x12_outbound.specs.Plan.{answer_is_unclear, unclear_answers};
-ghost use Rattle.x12_outbound.specs.Matches.{interchange_told, rejection_evidence};
+ghost use Rattle.x12_outbound.specs.Matches.{interchange_told, origin, rejection_evidence};
 ghost use Rattle.x12_outbound.specs.Matches.{functional_evidence, group_answer_view};
-ghost use Rattle.x12_outbound.specs.Matches.{AreNamedInBoth, AreApart};
-ghost use Rattle.x12_outbound.specs.Matches.{AddsStatements, is_found, AddsInBoth};
+ghost use Rattle.x12_outbound.specs.Matches.{AreNamedInBoth, AreApart, MayReject, WasReceived};
+ghost use Rattle.x12_outbound.specs.Matches.{AddsInBoth};
 ghost use Rattle.x12_outbound.specs.Subject.{an_interchange, a_group, subject_of, subjects_of};
-ghost use Rattle.x12_outbound.specs.Statement.{evidence_told, subject_told};
+ghost use Rattle.x12_outbound.specs.Statement.{evidence_told, subject_told, told_of_group};
 
 use crate::entry::{Entry, EntryGroup};
 use crate::evidence::Statement;
@@ -85,27 +87,47 @@ fn tell_unmatched(out: &mut Vec<Option<Statement>>) -> Result<(), AllocError>
     Ok(())
 }
 
+/// The interchange of this number among these, where the one who answers may reject it.
+fn rejected_row(rows: &[Row], parties: &Parties, icn: u32) -> Option<usize>
+    requires { AreInOrder (submitted_by parties.now.me (map row_view rows.now)) }
+    ensures found { IfSome result (MayReject parties.now rows.now icn) }
+    ensures none { IfNone result (found_interchange (hubs_of parties.now.hubs)
+        (submitted_by parties.now.me (map row_view rows.now)) parties.now.from icn ≡ None) }
+{
+    let Some(index) = find_row(rows, icn) else {
+        return None;
+    };
+    if !parties.may_reject(&rows[index].entry.partner) {
+        return None;
+    }
+    Some(index)
+}
+
 /// States what a TA1 that rejects says of the interchange of this number.
 fn tell_rejection(
     out: &mut Vec<Option<Statement>>,
     rows: &[Row],
+    closed: &[Row],
     parties: &Parties,
     icn: u32,
 ) -> Result<(), AllocError>
-    requires { AreInOrder (submitted_by parties.now.me (map row_view rows.now)) }
-    ensures { OnOk result
-        (AddsStatements parties.now (map row_view rows.now) (Some (an_interchange icn))
-        out.old.items out.new.items
-        (rejection_evidence parties.now (map row_view rows.now) icn)) }
+    requires held { AreInOrder (submitted_by parties.now.me (map row_view rows.now)) }
+    requires closed { AreInOrder (submitted_by parties.now.me (map row_view closed.now)) }
+    requires apart { AreApart (map row_view rows.now) (map row_view closed.now) }
+    ensures { OnOk result (
+        let held = submitted_by parties.now.me (map row_view rows.now) in
+        let found = submitted_by parties.now.me (map row_view closed.now) in
+        AddsInBoth parties.now (map row_view rows.now) (map row_view closed.now)
+        (Some (an_interchange icn)) out.old.items out.new.items
+        (rejection_evidence parties.now (held ++ found) icn)) }
 {
-    let Some(index) = find_row(rows, icn) else {
-        return tell_unmatched(out);
-    };
-    let entry = &rows[index].entry;
-    if !parties.may_reject(&entry.partner) {
-        return tell_unmatched(out);
+    if let Some(index) = rejected_row(rows, parties, icn) {
+        return tell_interchange(out, parties, &rows[index].entry);
     }
-    tell_interchange(out, parties, entry)
+    if let Some(index) = rejected_row(closed, parties, icn) {
+        return tell_interchange(out, parties, &closed[index].entry);
+    }
+    tell_unmatched(out)
 }
 
 /// Whether a group has this functional identifier code (GS01).
@@ -124,30 +146,49 @@ struct GroupAnswer<'a> {
     sets: &'a [(SetNo, AnswerCode)],
 }
 
-/// States what a 997 says of the functional group that it answers.
-fn tell_functional(
-    alloc: Global,
-    out: &mut Vec<Option<Statement>>,
+/// The functional group that a 997 answers among these interchanges, where the one who answers
+/// received it: the interchange, and the group's index there.
+fn answered_group(
     rows: &[Row],
     parties: &Parties,
     answer: &GroupAnswer<'_>,
-) -> Result<(), AllocError>
+) -> Option<(usize, usize)>
     requires { AreInOrder (submitted_by parties.now.me (map row_view rows.now)) }
-    ensures { OnOk result (AddsStatements parties.now (map row_view rows.now)
-        (Some (a_group answer.now.functional answer.now.number)) out.old.items out.new.items
-        (functional_evidence parties.now (map row_view rows.now) (group_answer_view answer.now))) }
+    ensures found { IfSome result (λ at.
+        WasReceived parties.now rows.now (group_answer_view answer.now) at.0 at.1) }
+    ensures none { IfNone result (found_group (submitted_by parties.now.me (map row_view rows.now))
+        parties.now.from (group_answer_view answer.now) ≡ None) }
 {
     let Some((at, index)) = find_group(rows, answer.number) else {
-        return tell_unmatched(out);
+        return None;
     };
     let entry = &rows[at].entry;
-    let group = &entry.groups[index];
     if !parties.is_receiver(&entry.partner) {
-        return tell_unmatched(out);
+        return None;
     }
-    if !is_functional(group, answer.functional) {
-        return tell_unmatched(out);
+    if !is_functional(&entry.groups[index], answer.functional) {
+        return None;
     }
+    Some((at, index))
+}
+
+/// States what a 997 says of the group at this index of an interchange.
+fn tell_group_at(
+    alloc: Global,
+    out: &mut Vec<Option<Statement>>,
+    parties: &Parties,
+    entry: &Entry,
+    index: usize,
+    answer: &GroupAnswer<'_>,
+) -> Result<(), AllocError>
+    requires sendable { IsSendable (submission_of_entry parties.now.me (entry_row entry.now)) }
+    requires there { index < length entry.now.groups.items }
+    ensures { (g : EntryGroup) → g ≡ slice_index_or entry.now.groups.items index g →
+        let by = Group answer.now.functional answer.now.number in
+        OnOk result (out.new.items ≡ out.old.items
+        ++ told_of_group (origin parties.now entry.now by (index + 1))
+        answer.now.code g.sets.items answer.now.sets.now) }
+{
     let origin = Origin {
         from: parties.from,
         sender: parties.me,
@@ -155,106 +196,41 @@ fn tell_functional(
         group: place_of(index),
         by: NamedBy::Group(answer.functional, answer.number),
     };
+    let group = &entry.groups[index];
     tell_group(alloc, out, &origin, &group.sets, answer.code, answer.sets)
 }
 
-/// Whether the one who answers may reject an interchange of this number among these.
-fn has_interchange(rows: &[Row], parties: &Parties, icn: u32) -> bool
-    requires { AreInOrder (submitted_by parties.now.me (map row_view rows.now)) }
-    ensures { result ≡ is_some (found_interchange (hubs_of parties.now.hubs)
-        (submitted_by parties.now.me (map row_view rows.now)) parties.now.from icn) }
-{
-    let Some(index) = find_row(rows, icn) else {
-        return false;
-    };
-    parties.may_reject(&rows[index].entry.partner)
-}
-
-/// Whether the one who answers received a functional group of these numbers among these
-/// interchanges.
-fn has_group(rows: &[Row], parties: &Parties, functional: [u8; 2], number: u32) -> bool
-    requires { AreInOrder (submitted_by parties.now.me (map row_view rows.now)) }
-    ensures { (a : FunctionalGroupAnswer) → a.functional ≡ functional → a.number ≡ number →
-        result ≡ is_some (found_group (submitted_by parties.now.me (map row_view rows.now))
-        parties.now.from a) }
-{
-    let Some((at, index)) = find_group(rows, number) else {
-        return false;
-    };
-    let row = &rows[at];
-    let group = &row.entry.groups[index];
-    if !parties.is_receiver(&row.entry.partner) {
-        return false;
-    }
-    is_functional(group, functional)
-}
-
-/// States what one answer says of what was submitted.
-#[tactic(auto, using(crate::proofs::EvidenceLemmas::adds_nothing), unfolding(x12_acks::specs::Evidence::answer_evidence))]
-fn tell_answer(
+/// States what a 997 says of the functional group that it answers.
+fn tell_functional(
     alloc: Global,
     out: &mut Vec<Option<Statement>>,
     rows: &[Row],
+    closed: &[Row],
     parties: &Parties,
-    answer: &Answer,
+    answer: &GroupAnswer<'_>,
 ) -> Result<(), AllocError>
-    requires { AreInOrder (submitted_by parties.now.me (map row_view rows.now)) }
-    ensures { OnOk result
-        (AddsStatements parties.now (map row_view rows.now) (subject_of (answer_view answer.now))
-        out.old.items out.new.items
-        (answer_evidence (hubs_of parties.now.hubs)
-        (submitted_by parties.now.me (map row_view rows.now)) parties.now.from
-        (answer_view answer.now))) }
+    requires held { AreInOrder (submitted_by parties.now.me (map row_view rows.now)) }
+    requires closed { AreInOrder (submitted_by parties.now.me (map row_view closed.now)) }
+    requires apart { AreApart (map row_view rows.now) (map row_view closed.now) }
+    ensures { OnOk result (
+        let held = submitted_by parties.now.me (map row_view rows.now) in
+        let found = submitted_by parties.now.me (map row_view closed.now) in
+        AddsInBoth parties.now (map row_view rows.now) (map row_view closed.now)
+        (Some (a_group answer.now.functional answer.now.number)) out.old.items out.new.items
+        (functional_evidence parties.now (held ++ found) (group_answer_view answer.now))) }
 {
-    match answer {
-        Answer::Interchange { icn, code, note: _ } => match code {
-            AcknowledgmentCode::Rejected => tell_rejection(out, rows, parties, *icn),
-            _ => Ok(()),
-        },
-        Answer::Group {
-            functional,
-            number,
-            code,
-            sets,
-        } => {
-            let answer = GroupAnswer {
-                functional: *functional,
-                number: *number,
-                code: *code,
-                sets,
-            };
-            tell_functional(alloc, out, rows, parties, &answer)
-        }
-        Answer::Unclear => Ok(()),
+    if let Some((at, index)) = answered_group(rows, parties, answer) {
+        return tell_group_at(alloc, out, parties, &rows[at].entry, index, answer);
     }
-}
-
-/// Whether an answer finds what it is about among these interchanges.
-#[tactic(auto, unfolding(crate::specs::Matches::is_found))]
-fn is_answered_here(rows: &[Row], parties: &Parties, answer: &Answer) -> bool
-    requires { AreInOrder (submitted_by parties.now.me (map row_view rows.now)) }
-    ensures { result
-        ≡ is_found (hubs_of parties.now.hubs) (submitted_by parties.now.me (map row_view rows.now))
-        parties.now.from (answer_view answer.now) }
-{
-    match answer {
-        Answer::Interchange {
-            icn,
-            code: _,
-            note: _,
-        } => has_interchange(rows, parties, *icn),
-        Answer::Group {
-            functional,
-            number,
-            code: _,
-            sets: _,
-        } => has_group(rows, parties, *functional, *number),
-        Answer::Unclear => false,
+    if let Some((at, index)) = answered_group(closed, parties, answer) {
+        return tell_group_at(alloc, out, parties, &closed[at].entry, index, answer);
     }
+    tell_unmatched(out)
 }
 
 /// States what one answer says of what was submitted: of the ledger's interchanges, and of the
 /// closed ones where it finds nothing in the ledger.
+#[tactic(auto, using(crate::proofs::BothLemmas::adds_nothing), unfolding(x12_acks::specs::Evidence::answer_evidence))]
 fn tell_in_both(
     alloc: Global,
     out: &mut Vec<Option<Statement>>,
@@ -274,10 +250,27 @@ fn tell_in_both(
         (answer_evidence (hubs_of parties.now.hubs) (held ++ found) parties.now.from
         (answer_view answer.now))) }
 {
-    if is_answered_here(rows, parties, answer) {
-        return tell_answer(alloc, out, rows, parties, answer);
+    match answer {
+        Answer::Interchange { icn, code, note: _ } => match code {
+            AcknowledgmentCode::Rejected => tell_rejection(out, rows, closed, parties, *icn),
+            _ => Ok(()),
+        },
+        Answer::Group {
+            functional,
+            number,
+            code,
+            sets,
+        } => {
+            let answer = GroupAnswer {
+                functional: *functional,
+                number: *number,
+                code: *code,
+                sets,
+            };
+            tell_functional(alloc, out, rows, closed, parties, &answer)
+        }
+        Answer::Unclear => Ok(()),
     }
-    tell_answer(alloc, out, closed, parties, answer)
 }
 
 /// What the answers of an interchange state of what was submitted, in their order; `None` for each

@@ -3,6 +3,7 @@ pub mod Agreeing
 pub mod Drafting
 pub mod Due
 pub mod Filing
+pub mod Heading
 pub mod Hearing
 pub mod Loading
 pub mod Noting

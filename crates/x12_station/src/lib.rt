@@ -14,6 +14,7 @@ mod failing;
 mod fault;
 mod filing;
 mod finding;
+mod heading;
 mod hearing;
 mod history;
 mod laws;

@@ -1,21 +1,15 @@
-//! What is written of orders: one interchange with one functional group PO of transaction sets 850
-//! (X12.5, X12.6).
+//! Orders that are to be written as transaction sets 850 (X12.5, X12.6).
 
-ghost use Rattle.std.specs.Prelude.{◌≡◌, ◌≤◌, ◌∷◌, [], codes, length, map, IfOk};
-ghost use Rattle.std.specs.List.{enumerate_from, list_all, list_any};
-ghost use Rattle.x12_envelopes.specs.Envelope.{elements_view, envelope_view, set_written};
+ghost use Rattle.std.specs.Prelude.{◌≡◌, map, IfOk};
+ghost use Rattle.std.specs.List.{list_all, list_any};
+ghost use Rattle.x12_envelopes.specs.Envelope.{elements_view};
 ghost use Rattle.x12_envelopes.specs.Fitting.{field_is_writable};
 ghost use Rattle.x12_envelopes.specs.Header.{is_barred};
-ghost use Rattle.x12_profile.specs.Order.{is_order, order_delimiters, order_set};
-ghost use Rattle.x12_profile.specs.Order.{order_header, order_interchange};
-ghost use Rattle.x12_numbers.specs.Book.{Numbers};
+ghost use Rattle.x12_profile.specs.Order.{is_order, order_delimiters};
 ghost use Rattle.x12_station.specs.Ordering.{order_view};
 
-use itoa::Buffer;
 use std::alloc::{AllocError, Global};
-use x12_envelopes::{
-    Delims, Envelope, GroupEnvelope, Moment, Party, SetEnvelope, is_data_segment, zero_padded,
-};
+use x12_envelopes::{Delims, is_data_segment};
 
 /// An order, to be written as a transaction set 850.
 #[derive(Debug, Drop)]
@@ -25,7 +19,7 @@ pub struct Body {
 }
 
 /// The delimiters of orders.
-const DELIMS: Delims = Delims {
+pub(crate) const DELIMS: Delims = Delims {
     element: b'*',
     component: b':',
     terminator: b'~',
@@ -102,113 +96,5 @@ impl Body {
             body.push(segment(alloc, elements)?)?;
         }
         Ok(Body { segments: body })
-    }
-}
-
-/// An order as the transaction set at this place (ST02, four digits).
-pub(crate) fn set_of(alloc: Global, place: u32, body: &Body) -> Result<SetEnvelope<'_>, AllocError>
-    requires { place ≤ 9999 }
-    ensures { IfOk result (λ s. set_written s ≡ order_set (place, order_view body.now)) }
-{
-    let number = zero_padded::<4>(place);
-    Ok(SetEnvelope {
-        header: segment(alloc, &[b"ST", b"850", &number])?,
-        segments: &body.segments,
-    })
-}
-
-/// Orders as transaction sets, numbered 0001 upwards.
-fn sets_of(alloc: Global, orders: &[Body]) -> Result<Vec<SetEnvelope<'_>>, AllocError>
-    requires { length orders.now ≤ 400 }
-    ensures { IfOk result (λ v. map set_written v.items
-        ≡ map order_set (enumerate_from 1 (map order_view orders.now))) }
-{
-    let mut sets = Vec::with_capacity(alloc, orders.len())?;
-    let mut place = 1;
-    for body in orders {
-        sets.push(set_of(alloc, place, body)?)?;
-        place += 1;
-    }
-    Ok(sets)
-}
-
-/// GS of orders, of these texts.
-fn group_header<'a>(
-    alloc: Global,
-    sender: &'a [u8],
-    receiver: &'a [u8],
-    date: &'a [u8],
-    time: &'a [u8],
-    number: &'a [u8],
-) -> Result<Vec<Vec<u8>>, AllocError>
-    ensures { IfOk result (λ s. elements_view s.items ≡ codes "GS" ∷ codes "PO" ∷ sender.now
-        ∷ receiver.now ∷ date.now ∷ time.now ∷ number.now ∷ codes "X" ∷ codes "004010" ∷ []) }
-{
-    segment(
-        alloc,
-        &[
-            b"GS", b"PO", sender, receiver, date, time, number, b"X", b"004010",
-        ],
-    )
-}
-
-/// What stands in the control segments of orders.
-#[derive(Clone, Copy, Debug)]
-pub(crate) struct Heading<'a> {
-    pub me: &'a Party,
-    pub to: &'a Party,
-    pub at: &'a Moment,
-    pub icn: u32,
-    pub gcn: u32,
-}
-
-impl Heading<'_> {
-    /// GS of orders.
-    fn group_header(&self, alloc: Global) -> Result<Vec<Vec<u8>>, AllocError>
-        ensures { let h = self.now in IfOk result (λ s. elements_view s.items
-            ≡ order_header h.me.now h.to.now h.at.now h.gcn) }
-    {
-        let mut buffer = Buffer::new();
-        let number = buffer.format(self.gcn).as_bytes();
-        let (date, time) = (self.at.date(), self.at.time());
-        group_header(
-            alloc,
-            self.me.identifier(),
-            self.to.identifier(),
-            &date,
-            &time,
-            number,
-        )
-    }
-
-    /// The interchange of orders.
-    #[tactic(auto, unfolding(x12_profile::specs::Order::order_interchange))]
-    pub(crate) fn envelope<'b>(
-        &self,
-        alloc: Global,
-        orders: &'b [Body],
-    ) -> Result<Envelope<'b>, AllocError>
-        requires { length orders.now ≤ 400 }
-        ensures { let h = self.now in
-            let book : Numbers = record { interchange = h.icn; group = h.gcn } in
-            IfOk result (λ e. envelope_view e
-            ≡ order_interchange h.me.now h.to.now h.at.now book (map order_view orders.now)) }
-    {
-        let mut groups = Vec::new(alloc);
-        groups.push(GroupEnvelope {
-            header: self.group_header(alloc)?,
-            sets: sets_of(alloc, orders)?,
-        })?;
-        Ok(Envelope {
-            delims: DELIMS,
-            sender: *self.me,
-            receiver: *self.to,
-            at: *self.at,
-            icn: self.icn,
-            ack: b'0',
-            usage: b'P',
-            tas: Vec::new(alloc),
-            groups,
-        })
     }
 }

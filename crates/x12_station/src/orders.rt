@@ -15,7 +15,8 @@ ghost use Rattle.x12_station.specs.Station.{Station};
 
 use crate::cached::Cached;
 use crate::fault::StationFault;
-use crate::ordering::{Body, Heading};
+use crate::heading::Heading;
+use crate::ordering::Body;
 use crate::prepared::LAST_ITEM;
 use x12_envelopes::{MAX_INTERCHANGE_BYTES, Moment, Party, write, written_len};
 use x12_numbers::MAX_CONTROL_NUMBER;
@@ -103,7 +104,8 @@ pub(crate) fn write_orders(
         icn: next_within(memory.book.interchange()),
         gcn: next_within(memory.book.group()),
     };
-    let envelope = heading.envelope(memory.alloc, orders)?;
+    let digits = heading.digits(memory.alloc, orders)?;
+    let envelope = heading.envelope(memory.alloc, &digits, orders)?;
     if written_len(&envelope) > MAX_INTERCHANGE_BYTES {
         return Err(StationFault::TooLarge);
     }

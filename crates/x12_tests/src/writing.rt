@@ -9,19 +9,21 @@ use x12_envelopes::{
     read_header, split_transmission, write, written_len, zero_padded,
 };
 
+/// The elements of a header that is written with stars.
+fn header<'a>(alloc: Global, text: &'a [u8]) -> Result<Vec<&'a [u8]>, AllocError> {
+    let mut elements = Vec::new(alloc);
+    for element in text.split(|byte| *byte == b'*') {
+        elements.push(element)?;
+    }
+    Ok(elements)
+}
+
 /// The elements of a segment that is written with stars.
 fn segment(alloc: Global, text: &[u8]) -> Result<Vec<Vec<u8>>, AllocError> {
     let mut elements = Vec::new(alloc);
-    let mut element = Vec::new(alloc);
-    for byte in text {
-        if *byte == b'*' {
-            elements.push(element)?;
-            element = Vec::new(alloc);
-        } else {
-            element.push(*byte)?;
-        }
+    for element in text.split(|byte| *byte == b'*') {
+        elements.push(Vec::from_slice(alloc, element)?)?;
     }
-    elements.push(element)?;
     Ok(elements)
 }
 
@@ -36,8 +38,8 @@ fn data_with(alloc: Global, data: &[u8]) -> Result<Vec<Vec<Vec<u8>>>, AllocError
 /// The accepted order, with another GS and ST, and these segments of data.
 fn order_with<'a>(
     alloc: Global,
-    gs: &[u8],
-    st: &[u8],
+    gs: &'a [u8],
+    st: &'a [u8],
     segments: &'a [Vec<Vec<u8>>],
 ) -> Result<Option<Envelope<'a>>, AllocError> {
     let Some(at) = Moment::new(*b"20250102", *b"0930") else {
@@ -45,12 +47,12 @@ fn order_with<'a>(
     };
     let mut sets = Vec::new(alloc);
     sets.push(SetEnvelope {
-        header: segment(alloc, st)?,
+        header: header(alloc, st)?,
         segments,
     })?;
     let mut groups = Vec::new(alloc);
     groups.push(GroupEnvelope {
-        header: segment(alloc, gs)?,
+        header: header(alloc, gs)?,
         sets,
     })?;
     Ok(Some(Envelope {

@@ -2,7 +2,7 @@
 use Rattle.std.specs.Prelude.{◌≡◌, ℕ, List, Bool, map, is_some, Some}
 use Rattle.std.specs.List.{list_any}
 use Rattle.x12_core.specs.Action.{Action}
-use Rattle.x12_core.specs.Node.{IsHub, IsStation, party_of_node, is_station, is_hub}
+use Rattle.x12_core.specs.Node.{IsHub, IsStation, party_of_node}
 use Rattle.x12_envelopes.specs.declared.party.Party.{Party}
 use Rattle.x12_judge.specs.Agreement.{is_same_party}
 use Rattle.x12_envelopes.specs.declared.moment.Moment.{Moment}
@@ -45,14 +45,6 @@ parties_of w = map party_of_node (all_nodes w.nodes)
 -- whether there is a node of this number
 abbrev pub is_node_at : World → ℕ → Bool
 is_node_at w i = is_some (node_at w.nodes i)
-
--- whether node i is a station
-abbrev pub is_station_at : World → ℕ → Bool
-is_station_at w i = is_station (node_at w.nodes i)
-
--- whether node i is a hub
-abbrev pub is_hub_at : World → ℕ → Bool
-is_hub_at w i = is_hub (node_at w.nodes i)
 
 module _ (p : Profile) where
   -- whether bytes name a node as their sender

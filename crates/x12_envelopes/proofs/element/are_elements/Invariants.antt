@@ -1,9 +1,8 @@
-use Rattle.std.proofs.Common.{◌≡◌, drop}
+use Rattle.std.proofs.Common.{◌≡◌, drop, map}
 use Rattle.std.specs.List.{list_all}
 use Rattle.x12_envelopes.specs.Fitting.{element_is_writable}
-use Rattle.x12_envelopes.specs.Envelope.{elements_view}
 use Rattle.x12_envelopes.proofs.element.are_elements.Given as goal
 
 abbrev pub invariant-loop-element : goal.invariant-loop-element
-invariant-loop-element l =
-    list_all (element_is_writable l.delims) (elements_view (drop l.element-index l.elements)) ≡ list_all (element_is_writable l.delims) (elements_view l.elements)
+invariant-loop-element g l =
+    list_all (element_is_writable l.delims) (map g.E.AsSlice.items (drop l.element-index l.elements)) ≡ list_all (element_is_writable l.delims) (map g.E.AsSlice.items l.elements)
