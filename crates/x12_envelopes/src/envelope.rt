@@ -1,5 +1,5 @@
 //! An interchange to be written (X12.5, X12.6): what its sender chooses. Its trailers, counts and
-//! written text follow from that. What is written is borrowed: writing copies each byte once.
+//! written text follow from that. GS, ST and data are borrowed: writing copies each byte once.
 
 use crate::delimiters::Delims;
 use crate::moment::Moment;
