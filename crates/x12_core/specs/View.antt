@@ -12,6 +12,7 @@ use Rattle.x12_core.specs.declared.ask.AskRef.{AskRef}
 use Rattle.x12_core.specs.declared.ask.AskRef.TheVariants as ref
 use Rattle.x12_judge.specs.Agreement.{agreement_view}
 use Rattle.x12_station.specs.Ordering.{order_view}
+use Rattle.x12_station.specs.Outgoing.{outgoing_bytes}
 use Rattle.x12_core.specs.declared.packet.Packet.{Packet as CodePacket}
 use Rattle.x12_core.specs.declared.packet.PacketName.{PacketName as CodeName}
 use Rattle.x12_core.specs.declared.packet.Load.{Load as CodeLoad}
@@ -25,7 +26,7 @@ abbrev pub name_view : CodeName → PacketName
 name_view n = record { event = n.event; place = n.place }
 
 abbrev pub load_view : CodeLoad → Load
-load_view (code.Deposit b) = Deposit b.items
+load_view (code.Deposit d) = Deposit (outgoing_bytes d)
 load_view (code.Item item b) = Item item b.items
 load_view (code.Refusal b) = Refusal b.items
 load_view (code.Taken item) = Taken item

@@ -118,8 +118,8 @@ fn take<H: HubRecords>(
     ensures store { CountsCore result hub.old.failures hub.new.failures }
 {
     match load {
-        Load::Deposit(bytes) => {
-            let decision = hub.deposit(bytes, at)?;
+        Load::Deposit(sent) => {
+            let decision = hub.deposit(sent.bytes(), at)?;
             Ok(refused(node, from, decision))
         }
         Load::Item(item, bytes) => {

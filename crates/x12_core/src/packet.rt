@@ -7,6 +7,8 @@ ghost use Rattle.x12_core.specs.Packet.{kind_of_load};
 ghost use Rattle.x12_core.specs.View.{kind_view, load_view};
 ghost use Rattle.x12_station.specs.Station.{Station};
 
+use x12_station::Outgoing;
+
 /// The first hub's node. Stations have the numbers behind it, 1 to 16.
 pub const HUB_NODE: u16 = 0;
 
@@ -35,7 +37,7 @@ pub struct PacketName {
 #[derive(Debug, Drop)]
 pub enum Load {
     /// An interchange for a hub.
-    Deposit(Vec<u8>),
+    Deposit(Outgoing),
     /// An item of a mailbox: its number, 1 to 999999999, and its interchange.
     Item(u32, Vec<u8>),
     /// A hub's refusal of a deposit.

@@ -1,14 +1,18 @@
 //! What a node sends at an event, before memory is found for its packets.
 
 ghost use Rattle.std.specs.Prelude.{◌≡◌, [], ◌∷◌, IfOk, length, map};
+ghost use Rattle.std.specs.Arc.{arc_slice_items};
 ghost use Rattle.x12_hub.specs.Mailbox.{item_view};
 ghost use Rattle.x12_profile.specs.X12.{x12};
+ghost use Rattle.x12_station.specs.Outgoing.{outgoing_bytes};
 ghost use Rattle.x12_core.specs.Effect.{deposits, items_to, reports_taken};
 ghost use Rattle.x12_core.specs.View.{packet_view};
 ghost use Rattle.x12_core.specs.Sends.{sends_view};
 
 use crate::packet::{Load, Packet, Site};
 use std::alloc::{AllocError, Global};
+use std::sync::ArcSlice;
+use x12_station::Outgoing;
 
 /// What a node sends at an event.
 #[derive(Debug, Drop)]
@@ -18,23 +22,23 @@ pub enum Sends {
     /// A packet.
     One(Packet),
     /// An interchange of this number that the station of this site submitted, for its hub.
-    Submitted(Site, u32, Vec<u8>),
+    Submitted(Site, u32, ArcSlice<u8>),
     /// Two packets, in this order.
     Two(Packet, Packet),
-    /// Interchanges of the station of this site, for its hub.
-    Deposits(Site, Vec<Vec<u8>>),
+    /// Interchanges that the station of this site submitted, again, for its hub.
+    Deposits(Site, Vec<ArcSlice<u8>>),
     /// Items of the first node, a hub, in the mailbox of the second, for that one.
     Items(u16, u16, Vec<(u32, Vec<u8>)>),
 }
 
 /// A station's interchange, for its hub.
-pub fn deposit(at: Site, bytes: Vec<u8>) -> Packet
-    ensures { map packet_view (result ∷ []) ≡ deposits at (bytes.items ∷ []) }
+pub fn deposit(at: Site, sent: Outgoing) -> Packet
+    ensures { map packet_view (result ∷ []) ≡ deposits at (outgoing_bytes sent ∷ []) }
 {
     Packet {
         from: at.node,
         to: at.hub,
-        load: Load::Deposit(bytes),
+        load: Load::Deposit(sent),
     }
 }
 
@@ -49,14 +53,14 @@ pub(crate) fn report(from: u16, to: u16, item: u32) -> Packet
     }
 }
 
-/// Interchanges of a station, as packets for its hub.
-fn deposits(alloc: Global, at: Site, sent: Vec<Vec<u8>>) -> Result<Vec<Packet>, AllocError>
+/// Interchanges that a station submitted, as packets for its hub.
+fn deposits(alloc: Global, at: Site, sent: Vec<ArcSlice<u8>>) -> Result<Vec<Packet>, AllocError>
     ensures { IfOk result (λ v.
-        map packet_view v.items ≡ deposits at (map (λ b. b.items) sent.items)) }
+        map packet_view v.items ≡ deposits at (map arc_slice_items sent.items)) }
 {
     let mut packets = Vec::with_capacity(alloc, sent.len())?;
     for bytes in sent {
-        packets.push(deposit(at, bytes))?;
+        packets.push(deposit(at, Outgoing::Shared(bytes)))?;
     }
     Ok(packets)
 }
@@ -104,7 +108,9 @@ impl Sends {
         match self {
             Sends::Nothing => Ok(Vec::new(alloc)),
             Sends::One(packet) => Ok(vec![in alloc; packet]?),
-            Sends::Submitted(at, _, bytes) => Ok(vec![in alloc; deposit(at, bytes)]?),
+            Sends::Submitted(at, _, bytes) => {
+                Ok(vec![in alloc; deposit(at, Outgoing::Shared(bytes))]?)
+            }
             Sends::Two(first, second) => Ok(vec![in alloc; first, second]?),
             Sends::Deposits(at, sent) => deposits(alloc, at, sent),
             Sends::Items(hub, to, sent) => items(alloc, hub, to, sent),

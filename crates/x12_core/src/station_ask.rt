@@ -2,6 +2,7 @@
 
 ghost use Rattle.std.specs.Prelude.{◌≡◌, ◌≤◌, ◌∷◌, [], IsTrue, IfOk, IfErr, OnErr, Some, length};
 ghost use Rattle.std.specs.Prelude.{option_to_list};
+ghost use Rattle.std.specs.Arc.{arc_slice_items};
 ghost use Rattle.x12_inbound.specs.Filing.{reply_bytes};
 ghost use Rattle.x12_judge.specs.Agreement.{agreement_view};
 ghost use Rattle.x12_core.specs.Action.{acts};
@@ -25,11 +26,11 @@ use crate::sends::{Sends, deposit, report};
 use std::alloc::{AllocError, Global};
 use x12_envelopes::Moment;
 use x12_judge::Agreement;
-use x12_station::{Records, Sent, Station};
+use x12_station::{Outgoing, Records, Sent, Station};
 
 /// What was submitted, for the station's hub.
 fn submitted(at: Site, sent: Sent) -> Sends
-    ensures sends { sends_view result ≡ deposits at (sent.bytes.items ∷ []) }
+    ensures sends { sends_view result ≡ deposits at (arc_slice_items sent.bytes ∷ []) }
     ensures listed { listed result ≡ record { node = at.node; icn = sent.icn } ∷ [] }
 {
     let Sent { icn, bytes } = sent;
@@ -42,7 +43,7 @@ fn answered(at: Site, reply: Option<Vec<u8>>) -> Sends
     ensures listed { listed result ≡ [] }
 {
     match reply {
-        Some(bytes) => Sends::One(deposit(at, bytes)),
+        Some(reply) => Sends::One(deposit(at, Outgoing::Own(reply))),
         None => Sends::Nothing,
     }
 }
@@ -55,7 +56,7 @@ fn reported(at: Site, from: u16, item: u32, reply: Option<Vec<u8>>) -> Sends
 {
     let taken = report(at.node, from, item);
     match reply {
-        Some(bytes) => Sends::Two(taken, deposit(at, bytes)),
+        Some(reply) => Sends::Two(taken, deposit(at, Outgoing::Own(reply))),
         None => Sends::One(taken),
     }
 }

@@ -9,4 +9,5 @@ mod ItemsLemmas
 mod DepositLemmas
 mod TableLemmas
 mod StepLemmas
+mod AgainLemmas
 mod StoppedLemmas

@@ -45,7 +45,7 @@ items_append : (xs ys : List WaitingItem) → map (λ (w : WaitingItem). w.item)
 items_append [] ys = refl
 items_append (x ∷ xs) ys = ap (λ is. x.item ∷ is) (items_append xs ys)
 
-items_put : (node item : ℕ) (ws : List WaitingItem) → map (λ (w : WaitingItem). w.item) (put_waiting node item ws) ≡ put_among item (map (λ w. w.item) ws)
+pub items_put : (node item : ℕ) (ws : List WaitingItem) → map (λ (w : WaitingItem). w.item) (put_waiting node item ws) ≡ put_among item (map (λ w. w.item) ws)
 items_put node item ws =
     items_append (filter (λ w. nat_lt w.item item) ws) (record { node = node; item = item } ∷ filter (λ w. nat_lt item w.item) ws)
     ∙ ap (λ is. is ++ item ∷ map (λ (w : WaitingItem). w.item) (filter (λ w. nat_lt item w.item) ws)) (items_filter (λ i. nat_lt i item) ws)

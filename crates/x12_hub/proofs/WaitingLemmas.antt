@@ -14,7 +14,7 @@ use Rattle.std.proofs.lemmas.Map.Keys.{sorted_head, sorted_tail}
 use Rattle.x12_hub.specs.Plan.{put_waiting, take_waiting}
 use Rattle.x12_hub.specs.Memory.{waiting_under}
 
-not_below : (x y : ℕ) → y ≤ x → ltb x y ≡ false
+pub not_below : (x y : ℕ) → y ≤ x → ltb x y ≡ false
 not_below x y le = by (ltb x y) refl
   where
     by : (t : Bool) → ltb x y ≡ t → t ≡ false

@@ -102,7 +102,7 @@ impl<H: HubRecords> Hub<H> {
 }
 
 impl<H: HubRecords> Hub<H> {
-    /// Puts a boxed item back into its mailbox.
+    /// Puts a boxed item back into its mailbox. Where it waits there still, nothing is written.
     fn put_back(&mut self, node: u16, item: u32) -> Result<(), HubFault>
         requires { IsTrue self.old.answers →
             (b : Bytes) × (decided self.old.hub.decisions b ≡ Some (Boxed node item)) }
@@ -115,6 +115,9 @@ impl<H: HubRecords> Hub<H> {
             (FailsToStore self.old.failures self.new.failures) }
         ensures unchanged { IsTrue self.new.answers → OnErr result (self.new.hub ≡ self.old.hub) }
     {
+        if self.cached.mailboxes.contains(&(node, item)) {
+            return Ok(());
+        }
         let change = HubChange::PutBack { node, item };
         let plan = HubPlan::new(self.cached.icn, self.cached.item, change);
         let cached = &mut self.cached;

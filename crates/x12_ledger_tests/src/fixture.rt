@@ -10,6 +10,7 @@ ghost use Rattle.x12_inbound.specs.Arrival.{IsDueReply, arrived_view, arrival};
 ghost use Rattle.x12_ledger_tests.specs.Order.{order_row, pending, holding};
 
 use std::alloc::Global;
+use std::sync::ArcSlice;
 use std::test::Fail;
 use x12_acks::{ReplyHeader, SetKey, needs, write_reply};
 use x12_envelopes::{Header, Moment, Party, SetNo};
@@ -80,7 +81,7 @@ pub(crate) fn order(
     Ok(Entry {
         icn,
         partner: receiver,
-        bytes: Vec::from_slice(alloc, b"ISA")?,
+        bytes: ArcSlice::from_slice(alloc, b"ISA")?,
         groups: vec![in alloc; group]?,
     })
 }

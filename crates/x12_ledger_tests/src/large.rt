@@ -9,6 +9,7 @@ ghost use Rattle.x12_ledger_tests.specs.Large.{AreFewSets, IsOneGroup, HoldsUpTo
 use crate::fixture::{ALPHA, BETA, HUB, number};
 use crate::register::register;
 use std::alloc::{AllocError, Global};
+use std::sync::ArcSlice;
 use std::test::Fail;
 use x12_acks::{Answer, AnswerCode};
 use x12_inbound::SetKey;
@@ -38,7 +39,7 @@ fn order(alloc: Global, icn: u32, count: usize) -> Result<Entry, Fail>
     Ok(Entry {
         icn,
         partner: BETA,
-        bytes: Vec::from_slice(alloc, b"ISA")?,
+        bytes: ArcSlice::from_slice(alloc, b"ISA")?,
         groups: vec![in alloc; group]?,
     })
 }

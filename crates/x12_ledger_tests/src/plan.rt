@@ -7,6 +7,7 @@ ghost use Rattle.x12_ledger_tests.specs.Order.{order_row, pending};
 
 use crate::fixture::{ALPHA, BETA, GAMMA, HUB, number};
 use std::alloc::Global;
+use std::sync::ArcSlice;
 use std::test::Fail;
 use x12_acks::{Answer, AnswerCode};
 use x12_envelopes::{AcknowledgmentCode, Party, SetNo};
@@ -31,7 +32,7 @@ fn order(alloc: Global, icn: u32, receiver: Party) -> Result<Entry, Fail>
     Ok(Entry {
         icn,
         partner: receiver,
-        bytes: Vec::from_slice(alloc, b"ISA")?,
+        bytes: ArcSlice::from_slice(alloc, b"ISA")?,
         groups: vec![in alloc; group]?,
     })
 }

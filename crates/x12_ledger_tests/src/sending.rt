@@ -19,7 +19,7 @@ fn an_interchange_is_sent_at_its_ticks(rt: HostRuntime) -> Result<(), Fail> {
         (1, Some(Fate::Pending))
     );
     assert_eq!(rt;
-        (sender.bytes(1).is_some(), sender.bytes(2).is_some()),
+        (sender.entry(1).is_some(), sender.entry(2).is_some()),
         (true, false)
     );
     Ok(())
@@ -58,7 +58,13 @@ fn what_is_loaded_is_due_and_is_sent_by_the_schedule(rt: HostRuntime) -> Result<
         assert_eq!(rt; sender.due(tick)?.len(), sends, "tick {tick}");
         sender.sent(tick);
     }
-    assert_eq!(rt; sender.due(20)?.as_slice(), [1, 2].as_slice());
+    let due = sender.due(20)?;
+    assert!(rt;
+        due.len() == 2
+            && due
+                .iter()
+                .all(|bytes| bytes.as_slice() == b"ISA".as_slice())
+    );
     assert_eq!(rt; sender.due(3)?.len(), 0);
     Ok(())
 }

@@ -69,7 +69,7 @@ fn submit_one<R: Records>(
     bytes: &[u8],
 ) -> Result<(), Stop> {
     match node.take(bytes) {
-        Ok(Answer::Sends(Some(sent))) => Ok(files.send(&sent)?),
+        Ok(Answer::Sends(Some(sent))) => Ok(files.send(sent.bytes())?),
         Ok(Answer::Sends(None)) => Ok(()),
         Ok(Answer::Refused(reason)) => {
             let why = reason_text(rt.alloc(), reason)?;

@@ -87,7 +87,7 @@ pub(crate) fn refuses<R: Records>(
     assert!(rt; station.is_new());
     let order = asking(alloc, &ALPHA, &BETA, 1, ORDER)?;
     let sent = submit(station, &order)?;
-    assert!(rt; sent.icn == 1 && sent.bytes == order);
+    assert!(rt; sent.icn == 1 && sent.bytes.as_slice() == order.as_slice());
     check_refused(rt, alloc, station)
 }
 

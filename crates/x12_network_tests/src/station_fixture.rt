@@ -8,6 +8,7 @@ use crate::fixture::{ALPHA, BETA, HUB, OTHER};
 use crate::kept_station::{RecordsOfStation, records_of_station};
 use std::alloc::{AllocError, Global};
 use std::process::Abort;
+use std::sync::ArcSlice;
 use x12_acks::SetKey;
 use x12_envelopes::{Moment, Party, zero_padded};
 use x12_outbound::Fate;
@@ -254,7 +255,7 @@ pub(crate) fn agree<R: Records>(
 }
 
 /// Whether these interchanges were sent, in this order.
-pub(crate) fn are_sent(sent: &[Vec<u8>], want: &[&[u8]]) -> bool {
+pub(crate) fn are_sent(sent: &[ArcSlice<u8>], want: &[&[u8]]) -> bool {
     let same = sent
         .iter()
         .zip(want.iter())

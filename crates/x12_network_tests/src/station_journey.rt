@@ -9,6 +9,7 @@ use crate::station_fixture::{
 use crate::station_orders::{FIRST_ORDER, Segments, bodies};
 use std::alloc::Global;
 use std::process::Abort;
+use std::sync::ArcSlice;
 use x12_acks::SetKey;
 use x12_outbound::{Counts, Fate};
 use x12_station::{ArrivalKind, Records, Station, StationFault};
@@ -71,11 +72,11 @@ fn goes_out<R: Records>(
     alloc: Global,
     alpha: &mut Station<R>,
     way: &Way,
-) -> Result<Vec<u8>, StationFault> {
+) -> Result<ArcSlice<u8>, StationFault> {
     let orders = bodies(alloc, 1, way.order)?;
     let sent = order(alpha, BETA, &at(rt), &orders)?;
     let want = not_asking(alloc, &ALPHA, &BETA, way.key.icn, way.submitted)?;
-    assert!(rt; sent.icn == way.key.icn && sent.bytes == want);
+    assert!(rt; sent.icn == way.key.icn && sent.bytes.as_slice() == want.as_slice());
     assert!(rt; fate(alpha, &way.key)? == Some(Fate::Pending));
     Ok(sent.bytes)
 }

@@ -155,7 +155,7 @@ pub(crate) fn writes_orders<R: Records>(
     let orders = bodies(alloc, 2, FIRST_ORDER)?;
     let sent = order(station, BETA, &at(rt), &orders)?;
     let want = not_asking(alloc, &ALPHA, &BETA, 1, WRITTEN)?;
-    assert!(rt; sent.icn == 1 && sent.bytes == want);
+    assert!(rt; sent.icn == 1 && sent.bytes.as_slice() == want.as_slice());
     let sent = order(station, BETA, &at(rt), &orders)?;
     assert!(rt; sent.icn == 2 && sent.bytes.ends_with(b"~GE*2*2~IEA*1*000000002~"));
     Ok(())

@@ -83,7 +83,7 @@ fn stays_as_it_was<R: Records>(
     assert!(rt; matches!(&station.submit_prepared(&three), Err(StationFault::Store)));
     assert!(rt; station.failures() == 1);
     assert!(rt; are_sent(&station.tick(1)?, &[&one, &two]));
-    assert!(rt; station.submit_prepared(&three)?.bytes == three);
+    assert!(rt; station.submit_prepared(&three)?.bytes.as_slice() == three.as_slice());
     assert!(rt; station.failures() == 1);
     Ok(())
 }

@@ -40,7 +40,10 @@ pub(crate) fn sends_again<R: Records>(
     for (now, count) in TICKS {
         let sent = station.tick(now)?;
         assert!(rt;
-            sent.len() == count && sent.iter().all(|bytes| *bytes == order),
+            sent.len() == count
+                && sent
+                    .iter()
+                    .all(|bytes| bytes.as_slice() == order.as_slice()),
             "{now}"
         );
     }
@@ -48,7 +51,10 @@ pub(crate) fn sends_again<R: Records>(
     for now in [0, 1] {
         let sent = station.tick(now)?;
         assert!(rt;
-            sent.len() == 1 && sent.iter().all(|bytes| *bytes == order),
+            sent.len() == 1
+                && sent
+                    .iter()
+                    .all(|bytes| bytes.as_slice() == order.as_slice()),
             "{now}"
         );
     }

@@ -175,7 +175,7 @@ pub(crate) fn refuses(
 /// The bytes that a packet carries.
 fn bytes_of(load: &Load) -> Option<&[u8]> {
     match load {
-        Load::Deposit(bytes) => Some(bytes),
+        Load::Deposit(sent) => Some(sent.bytes()),
         Load::Item(_, bytes) => Some(bytes),
         Load::Refusal(bytes) => Some(bytes),
         Load::Taken(_) => None,

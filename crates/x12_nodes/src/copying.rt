@@ -12,7 +12,7 @@ fn copied_load(alloc: Global, load: &Load) -> Result<Load, AllocError>
     ensures { IfOk result (λ l. load_view l ≡ load_view load.now) }
 {
     match load {
-        Load::Deposit(bytes) => Ok(Load::Deposit(Vec::from_slice(alloc, bytes)?)),
+        Load::Deposit(sent) => Ok(Load::Deposit(sent.copied(alloc)?)),
         Load::Item(item, bytes) => Ok(Load::Item(*item, Vec::from_slice(alloc, bytes)?)),
         Load::Refusal(bytes) => Ok(Load::Refusal(Vec::from_slice(alloc, bytes)?)),
         Load::Taken(item) => Ok(Load::Taken(*item)),

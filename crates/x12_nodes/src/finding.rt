@@ -74,7 +74,7 @@ pub(crate) fn is_same_load(one: &Load, other: &Load) -> bool
     ensures { result ≡ load_is (load_view one.now) (load_view other.now) }
 {
     match (one, other) {
-        (Load::Deposit(a), Load::Deposit(b)) => a == b,
+        (Load::Deposit(a), Load::Deposit(b)) => a.bytes() == b.bytes(),
         (Load::Item(i, a), Load::Item(j, b)) => i == j && a == b,
         (Load::Refusal(a), Load::Refusal(b)) => a == b,
         (Load::Taken(i), Load::Taken(j)) => i == j,

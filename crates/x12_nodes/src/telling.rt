@@ -1,6 +1,7 @@
 //! What is kept of what a core did, and what is told of it, in room that was made before.
 
 ghost use Rattle.std.specs.Prelude.{◌≡◌, ◌≤◌, ◌+◌, ◌++◌, length, map, vec_len, vec_capacity};
+ghost use Rattle.std.specs.Arc.{arc_slice_items};
 ghost use Rattle.x12_core.specs.Effect.{deposits, items_to};
 ghost use Rattle.x12_core.specs.Sends.{sends_view};
 ghost use Rattle.x12_core.specs.View.{ask_view, packet_view};
@@ -9,17 +10,19 @@ ghost use Rattle.x12_nodes.specs.Log.{number_in_first, number_submitted, told_of
 ghost use Rattle.x12_nodes.specs.View.{told_kind_view};
 ghost use Rattle.x12_profile.specs.X12.{x12};
 
+use std::sync::ArcSlice;
 use x12_core::{Ask, Kind, Load, Packet, Sends, Site, deposit};
 use x12_envelopes::read_header;
+use x12_station::Outgoing;
 
-/// Interchanges of a station, as packets for its hub.
-fn pour_deposits(packets: &mut Vec<Packet>, at: Site, sent: Vec<Vec<u8>>)
+/// Interchanges that a station submitted, as packets for its hub.
+fn pour_deposits(packets: &mut Vec<Packet>, at: Site, sent: Vec<ArcSlice<u8>>)
     requires room { vec_len sent + vec_len packets.old ≤ vec_capacity packets.old }
     ensures { map packet_view packets.new.items
-        ≡ map packet_view packets.old.items ++ deposits at (map (λ b. b.items) sent.items) }
+        ≡ map packet_view packets.old.items ++ deposits at (map arc_slice_items sent.items) }
 {
     for bytes in sent {
-        packets.push_reserved(deposit(at, bytes));
+        packets.push_reserved(deposit(at, Outgoing::Shared(bytes)));
     }
 }
 
@@ -47,7 +50,9 @@ pub(crate) fn pour(sends: Sends, packets: &mut Vec<Packet>)
     match sends {
         Sends::Nothing => {}
         Sends::One(packet) => packets.push_reserved(packet),
-        Sends::Submitted(at, _, bytes) => packets.push_reserved(deposit(at, bytes)),
+        Sends::Submitted(at, _, bytes) => {
+            packets.push_reserved(deposit(at, Outgoing::Shared(bytes)));
+        }
         Sends::Two(first, second) => {
             packets.push_reserved(first);
             packets.push_reserved(second);
@@ -86,7 +91,7 @@ fn first_number(packets: &[Packet]) -> Option<u32>
         return None;
     };
     match &packet.load {
-        Load::Deposit(bytes) => Some(number_of(bytes)),
+        Load::Deposit(sent) => Some(number_of(sent.bytes())),
         Load::Item(_, bytes) => Some(number_of(bytes)),
         Load::Refusal(bytes) => Some(number_of(bytes)),
         Load::Taken(_) => None,

@@ -52,7 +52,7 @@ fn are_deposit(packets: &[Packet]) -> bool {
         return false;
     };
     let is_order = match &packet.load {
-        Load::Deposit(bytes) => bytes.as_slice() == ORDER,
+        Load::Deposit(sent) => sent.bytes() == ORDER,
         _ => false,
     };
     is_order && packets.len() == 1 && packet.from == 1 && packet.to == HUB_NODE

@@ -10,6 +10,7 @@ use std::test::Fail;
 use x12_core::{Action, Ask, HUB_NODE, Load, PacketName};
 use x12_envelopes::Party;
 use x12_nodes::{Check, NodeCell, Pass, SettleFault, Wire, check_logs};
+use x12_station::Outgoing;
 
 /// The cells of the hub, of ALPHA and of BETA.
 #[tactic(auto, unfolding(x12_envelopes::specs::Party::is_plain_party))]
@@ -31,7 +32,7 @@ fn deposit(rt: &impl Abort, alloc: Global, event: u64) -> Ask {
     Ask::Deliver {
         packet: PacketName { event, place: 1 },
         from: 1,
-        load: Load::Deposit(bytes(rt, alloc, ORDER)),
+        load: Load::Deposit(Outgoing::Own(bytes(rt, alloc, ORDER))),
         at: half_past_nine(rt),
     }
 }

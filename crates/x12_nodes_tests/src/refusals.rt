@@ -10,6 +10,7 @@ use std::test::Fail;
 use x12_core::{Action, Ask, Load, PacketName};
 use x12_envelopes::Party;
 use x12_nodes::{CallFault, Gate, GateCall, GateFault, Pass, Wire};
+use x12_station::Outgoing;
 
 /// Whether a node refuses an ask with this fault, and its caller's pass stays as it was.
 fn refuses<W: Wait>(
@@ -32,7 +33,7 @@ fn delivery(rt: &impl Abort, alloc: Global, event: u64, place: u32, from: u16, t
     Ask::Deliver {
         packet: PacketName { event, place },
         from,
-        load: Load::Deposit(bytes(rt, alloc, text)),
+        load: Load::Deposit(Outgoing::Own(bytes(rt, alloc, text))),
         at: half_past_nine(rt),
     }
 }

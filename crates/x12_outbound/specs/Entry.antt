@@ -2,6 +2,7 @@
 -- transaction sets.
 use Rattle.std.specs.Prelude.{ℕ, ◌<◌, ◌≤◌, ◌-◌, Bool, false, List, map, length, AllPairs, Option, None, if◌then◌else◌, ◌==◌, slice_get, slice_set, option_map, option_and_then, unwrap_or}
 use Rattle.std.specs.List.{list_any, sum_by}
+use Rattle.std.specs.Arc.{arc_slice_items}
 use Rattle.x12_envelopes.specs.declared.party.Party.{Party}
 use Rattle.x12_envelopes.specs.Shape.{bytes_of_set_no}
 use Rattle.x12_acks.specs.Submission.{Submission, SubmittedGroup, SubmittedSet}
@@ -42,7 +43,7 @@ abbrev pub entry_row : Entry → InterchangeRow
 entry_row e = record {
   icn = e.icn;
   receiver = e.partner;
-  bytes = e.bytes.items;
+  bytes = arc_slice_items e.bytes;
   groups = map group_row e.groups.items;
 }
 

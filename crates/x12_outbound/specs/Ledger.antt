@@ -152,9 +152,9 @@ open_alone v = record v { rows = filter (λ r. row_is_open r.interchange) v.rows
 abbrev pub row_is_due : ℕ → LedgerRow → Bool
 row_is_due now r = row_is_open r.interchange && nat_le r.schedule.due now
 
--- the numbers of the interchanges that are due, rising
-unfoldable pub numbers_due : ℕ → OutboundLedger → List ℕ
-numbers_due now v = map (λ r. r.interchange.icn) (filter (row_is_due (tick_seen v.tick now)) v.rows)
+-- the bytes of the interchanges that are due, by rising number
+unfoldable pub bytes_due : ℕ → OutboundLedger → List (List ℕ)
+bytes_due now v = map (λ r. r.interchange.bytes) (filter (row_is_due (tick_seen v.tick now)) v.rows)
 
 -- an interchange sent once more if it is due
 abbrev pub row_sent_if_due : ℕ → LedgerRow → LedgerRow

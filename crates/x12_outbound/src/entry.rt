@@ -9,6 +9,7 @@ ghost use Rattle.x12_outbound.specs.Entry.{pending_entry};
 
 use crate::fate::Fate;
 use std::alloc::{AllocError, Global};
+use std::sync::ArcSlice;
 use x12_envelopes::{GroupView, Header, Outline, Party, SetNo};
 
 /// A submitted transaction set.
@@ -54,8 +55,8 @@ pub struct Entry {
     pub icn: u32,
     /// The receiver (ISA07, ISA08).
     pub partner: Party,
-    /// The bytes as they were submitted.
-    pub bytes: Vec<u8>,
+    /// The bytes as they were submitted, shared with each sending of them.
+    pub bytes: ArcSlice<u8>,
     /// The functional groups, in their order.
     pub groups: Vec<EntryGroup>,
 }
@@ -112,12 +113,12 @@ impl Entry {
         Ok(Entry {
             icn: header.icn,
             partner: header.receiver,
-            bytes: Vec::from_slice(alloc, bytes)?,
+            bytes: ArcSlice::from_slice(alloc, bytes)?,
             groups,
         })
     }
 
-    /// A copy of the entry, as it stands.
+    /// A copy of the entry, as it stands. Its bytes are the same, shared.
     ///
     /// `Err` where memory is missing.
     pub fn copied(&self, alloc: Global) -> Result<Entry, AllocError>
@@ -130,7 +131,7 @@ impl Entry {
         Ok(Entry {
             icn: self.icn,
             partner: self.partner,
-            bytes: Vec::from_slice(alloc, &self.bytes)?,
+            bytes: self.bytes.clone()?,
             groups,
         })
     }

@@ -4,6 +4,7 @@
 ghost use Rattle.std.specs.Prelude.{◌≡◌, ◌≤◌, ◌∷◌, Some, IsOk, IsTrue, IfOk, IfErr, IfSome};
 ghost use Rattle.std.specs.Prelude.{OnOk, OnErr, OnSome, IfNone, is_some, map, option_map};
 ghost use Rattle.std.specs.Prelude.{slice_get, option_to_list};
+ghost use Rattle.std.specs.Arc.{arc_slice_items};
 ghost use Rattle.x12_acks.specs.Key.{key_view};
 ghost use Rattle.x12_outbound.specs.Entry.{entry_row};
 ghost use Rattle.x12_outbound.specs.Schedule.{unsent_schedule, sent_at};
@@ -13,7 +14,7 @@ ghost use Rattle.x12_outbound.specs.Ledger.{fates};
 ghost use Rattle.x12_outbound.specs.Ledger.{numbers_of, can_be_lifted, is_lifted, with_row, lifted};
 ghost use Rattle.x12_outbound.specs.Ledger.{no_longer_out, closed, interchange_numbered};
 ghost use Rattle.x12_outbound.specs.Ledger.{open_interchanges};
-ghost use Rattle.x12_outbound.specs.Ledger.{numbers_due, after_tick};
+ghost use Rattle.x12_outbound.specs.Ledger.{bytes_due, after_tick};
 
 use crate::entry::Entry;
 use crate::fate::Fate;
@@ -25,6 +26,7 @@ use crate::row::{
 use crate::schedule::Schedule;
 use std::alloc::{AllocError, Global};
 use std::marker::Model;
+use std::sync::ArcSlice;
 use x12_acks::SetKey;
 use x12_envelopes::Party;
 
@@ -207,18 +209,6 @@ impl Ledger {
         }
     }
 
-    /// The bytes of a submitted interchange, by its number; `None` of one that this ledger doesn't
-    /// hold.
-    pub fn bytes(&self, icn: u32) -> Option<&[u8]>
-        ensures { option_map (λ b. b.now) result
-            ≡ option_map (λ e. e.bytes) (interchange_numbered self.now.holds icn) }
-    {
-        match entry_of(&self.rows, icn) {
-            Some(entry) => Some(&entry.bytes),
-            None => None,
-        }
-    }
-
     /// A submitted interchange, by its number; `None` of one that this ledger doesn't hold.
     pub fn entry(&self, icn: u32) -> Option<&Entry>
         ensures { option_map (λ e. entry_row e.now) result
@@ -253,11 +243,12 @@ impl Ledger {
         open_rows(&self.rows)
     }
 
-    /// The numbers of the interchanges that are due at this tick, rising. A smaller tick than the
-    /// greatest seen counts as that one.
-    #[tactic(auto, unfolding(crate::specs::Ledger::numbers_due))]
-    pub fn due(&self, now: u64) -> Result<Vec<u32>, AllocError>
-        ensures { IfOk result (λ numbers. numbers.items ≡ numbers_due now self.now.holds) }
+    /// The bytes of the interchanges that are due at this tick, by rising number, shared. A smaller
+    /// tick than the greatest seen counts as that one.
+    #[tactic(auto, unfolding(crate::specs::Ledger::bytes_due))]
+    pub fn due(&self, now: u64) -> Result<Vec<ArcSlice<u8>>, AllocError>
+        ensures { IfOk result (λ due.
+            map arc_slice_items due.items ≡ bytes_due now self.now.holds) }
     {
         due_rows(self.alloc, &self.rows, self.tick.max(now))
     }

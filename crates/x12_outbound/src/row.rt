@@ -3,6 +3,7 @@ ghost use Rattle.std.specs.Prelude.{◌≡◌, ◌<◌, ◌==◌, ◌≤◌, ◌
 ghost use Rattle.std.specs.Prelude.{IfNone, is_some, count_by, filter, length, map, find};
 ghost use Rattle.std.specs.Prelude.{slice_get, slice_index_or, option_map};
 ghost use Rattle.std.specs.List.{list_any};
+ghost use Rattle.std.specs.Arc.{arc_slice_items};
 ghost use Rattle.x12_acks.specs.Key.{key_view};
 ghost use Rattle.x12_outbound.specs.Fate.{is_pending};
 ghost use Rattle.x12_outbound.specs.Hubs.{hubs_of};
@@ -18,6 +19,7 @@ use crate::hubs::Hubs;
 use crate::open_set::OpenSet;
 use crate::schedule::Schedule;
 use std::alloc::{AllocError, Global};
+use std::sync::ArcSlice;
 use x12_acks::SetKey;
 use x12_envelopes::Party;
 
@@ -255,15 +257,19 @@ impl Row {
     }
 }
 
-/// The numbers of the interchanges that are due at this tick.
-pub(crate) fn due_rows(alloc: Global, rows: &[Row], now: u64) -> Result<Vec<u32>, AllocError>
-    ensures { IfOk result (λ v. v.items
-        ≡ map (λ r. r.interchange.icn) (filter (row_is_due now) (map row_view rows.now))) }
+/// The bytes of the interchanges that are due at this tick.
+pub(crate) fn due_rows(
+    alloc: Global,
+    rows: &[Row],
+    now: u64,
+) -> Result<Vec<ArcSlice<u8>>, AllocError>
+    ensures { IfOk result (λ v. map arc_slice_items v.items
+        ≡ map (λ r. r.interchange.bytes) (filter (row_is_due now) (map row_view rows.now))) }
 {
     let mut due = Vec::new(alloc);
     for row in rows {
         if row.is_due(now) {
-            due.push(row.entry.icn)?;
+            due.push(row.entry.bytes.clone()?)?;
         }
     }
     Ok(due)

@@ -18,7 +18,7 @@ use x12_envelopes::Moment;
 use x12_outbound::Fate;
 use x12_records::{leave_station, open_station_over};
 use x12_samples::{moment, orders_from};
-use x12_station::{ArrivalKind, Item, Records, Station, StationFault};
+use x12_station::{ArrivalKind, Item, Outgoing, Records, Station, StationFault};
 
 /// How many moments a call has at which both files may stop, at most.
 const MOST: u64 = 400;
@@ -57,15 +57,18 @@ fn before<D: Disk + Drop>(alloc: Global, files: Files<D>) -> Result<(Files<D>, V
     Ok((files, reply?))
 }
 
-/// The bytes that the call answers, which are to be sent; none where none are due.
+/// What the call answers, which is to be sent; none where none is due.
 fn ask<R: Records>(
     alpha: &mut Station<R>,
     asked: Asked,
     at: &Moment,
-) -> Result<Option<Vec<u8>>, StationFault> {
+) -> Result<Option<Outgoing>, StationFault> {
     match asked {
-        Asked::Submission => Ok(Some(alpha.submit_prepared(THIRD)?.bytes)),
-        Asked::Arrival => Ok(alpha.arrive(MIXED, at)?.reply),
+        Asked::Submission => Ok(Some(Outgoing::Shared(alpha.submit_prepared(THIRD)?.bytes))),
+        Asked::Arrival => match alpha.arrive(MIXED, at)?.reply {
+            Some(reply) => Ok(Some(Outgoing::Own(reply))),
+            None => Ok(None),
+        },
     }
 }
 
@@ -135,7 +138,7 @@ fn is_done_again<R: Records>(
     at: &Moment,
 ) -> Result<bool, Fail> {
     match ask(alpha, asked, at) {
-        Ok(Some(bytes)) => { Ok(bytes.as_slice() == wanted && (!stood || asked == Asked::Arrival)) }
+        Ok(Some(sent)) => { Ok(sent.bytes() == wanted && (!stood || asked == Asked::Arrival)) }
         Err(StationFault::NotNew) => Ok(stood && asked == Asked::Submission),
         _ => Ok(false),
     }
@@ -144,7 +147,7 @@ fn is_done_again<R: Records>(
 /// What a call answers that nothing stops, and what was said before it.
 #[derive(Drop)]
 struct Answers {
-    wanted: Vec<u8>,
+    wanted: Outgoing,
     said: Vec<u8>,
 }
 
@@ -159,7 +162,7 @@ fn is_whole<R: Records>(
     let at = moment()?;
     let stood = stands(alpha, asked)?;
     assert!(rt; keeps(alpha, &answers.said, &at)?);
-    assert!(rt; is_done_again(alpha, asked, stood, &answers.wanted, &at)?);
+    assert!(rt; is_done_again(alpha, asked, stood, answers.wanted.bytes(), &at)?);
     assert!(rt; stands(alpha, asked)?);
     Ok(stood)
 }
@@ -191,7 +194,7 @@ fn stopped<D: Stops + Drop>(
     before: &Files<D>,
     stop: Stop,
     asked: Asked,
-) -> Result<(Option<Vec<u8>>, Files<D>), Fail>
+) -> Result<(Option<Outgoing>, Files<D>), Fail>
     requires { MayStop D.Disk before.now }
     ensures { IfOk result (λ r. MayStop D.Disk r.1) }
 {
@@ -201,7 +204,7 @@ fn stopped<D: Stops + Drop>(
     let answer = ask(&mut alpha, asked, &at);
     let files = leave_station(alpha);
     match answer {
-        Ok(bytes) => Ok((bytes, files)),
+        Ok(sent) => Ok((sent, files)),
         Err(StationFault::Store) => Ok((None, files)),
         Err(fault) => Err(fault.into()),
     }

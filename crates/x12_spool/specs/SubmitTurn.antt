@@ -7,6 +7,7 @@ use Rattle.x12_station.specs.declared.fault.StationFault.{StationFault}
 use Rattle.x12_station.specs.declared.fault.StationFault.TheVariants.{NotNew}
 use Rattle.x12_station.specs.Fault.{IsRowOrWant, prepared_fault}
 use Rattle.x12_station.specs.History.{submission_under}
+use Rattle.x12_station.specs.Outgoing.{outgoing_bytes}
 use Rattle.x12_station.specs.Seen.{StationView}
 use Rattle.x12_station.specs.StationStep.{submit}
 use Rattle.x12_spool.specs.declared.station.StationAt.{StationAt}
@@ -30,7 +31,7 @@ IsKnownAs old new b (Some v) = IsKnown v.items old new
 -- what is said of bytes whose number isn't new
 abbrev pub IsSentBefore : {R : Type 0} → StationView R → StationView R → Bytes → Answer → Type 0
 IsSentBefore old new b (Sends None) = ⊥
-IsSentBefore old new b (Sends (Some v)) = (v.items ≡ b) × IsKnown b old new
+IsSentBefore old new b (Sends (Some o)) = (outgoing_bytes o ≡ b) × IsKnown b old new
 IsSentBefore old new b (Refused reason) = reason ≡ NotSubmitted NotNew
 
 -- Bytes are submitted and sent; or they were submitted before, and are sent again.

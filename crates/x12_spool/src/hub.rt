@@ -1,7 +1,7 @@
 //! A hub that takes what came from one depositor, at a moment.
 
 use crate::depositor::{Depositor, reason_against, refusal_for};
-use crate::node::{Answer, Node, NodeFault, Offer};
+use crate::node::{Answer, Node, NodeFault, Offer, sent_on};
 use crate::offering::item_offers;
 use std::alloc::Global;
 use x12_envelopes::Moment;
@@ -55,7 +55,7 @@ impl<H: HubRecords> Node for HubAt<H> {
             Ok(Decision::Boxed { .. }) => Ok(Answer::Sends(None)),
             Ok(Decision::Refused(reply)) => {
                 let refusal = refusal_for(&self.depositor, bytes, reply);
-                Ok(Answer::Sends(refusal))
+                Ok(Answer::Sends(sent_on(refusal)))
             }
             Err(fault) => Err(fault_of(fault)),
         }

@@ -1,21 +1,32 @@
 //! What takes an interchange: a station or a hub.
 
-ghost use Rattle.std.specs.Prelude.{◌⊎◌, ℕ, List, MatchResult, map};
+ghost use Rattle.std.specs.Prelude.{◌≡◌, ◌⊎◌, ℕ, List, MatchResult, map, option_map};
 ghost use Rattle.x12_profile.specs.Interchange.{Bytes};
+ghost use Rattle.x12_station.specs.Outgoing.{outgoing_bytes};
 ghost use Rattle.x12_spool.specs.Node.{IsAnsweredBy, Offered, offer_view};
 ghost use Rattle.x12_spool.specs.declared.node.Reason.{Reason};
 
 use std::alloc::AllocError;
 use x12_envelopes::HeaderFault;
-use x12_station::StationFault;
+use x12_station::{Outgoing, StationFault};
 
 /// What a node says of an interchange.
 #[derive(Drop)]
 pub enum Answer {
     /// It was taken, and this is to be sent on.
-    Sends(Option<Vec<u8>>),
+    Sends(Option<Outgoing>),
     /// It isn't taken.
     Refused(Reason),
+}
+
+/// A reply, if there is one, to be sent on.
+pub(crate) fn sent_on(reply: Option<Vec<u8>>) -> Option<Outgoing>
+    ensures { option_map outgoing_bytes result ≡ option_map (λ v. v.items) reply }
+{
+    match reply {
+        Some(reply) => Some(Outgoing::Own(reply)),
+        None => None,
+    }
 }
 
 /// Why a node doesn't take an interchange.
@@ -35,7 +46,7 @@ pub struct Offer {
     /// The number of the item in its mailbox, where it is one.
     pub item: Option<u32>,
     /// The interchange.
-    pub bytes: Vec<u8>,
+    pub bytes: Outgoing,
 }
 
 /// Why a node did nothing.

@@ -1,6 +1,7 @@
 //! What a node has to put by itself: a station what is due, a hub what waits in a mailbox.
 
 ghost use Rattle.std.specs.Prelude.{◌≡◌, ◌∷◌, [], IfOk, OnOk, OnErr, map};
+ghost use Rattle.std.specs.Arc.{arc_slice_items};
 ghost use Rattle.x12_hub.specs.Mailbox.{item_view};
 ghost use Rattle.x12_spool.specs.Node.{offer_view, plain_offer, item_offer};
 ghost use Rattle.x12_spool.specs.Deed.{AddsDeeds};
@@ -11,18 +12,23 @@ use crate::node::{Node, Offer};
 use crate::spool::Spool;
 use crate::turn::TurnFault;
 use std::alloc::{AllocError, Global};
+use std::sync::ArcSlice;
+use x12_station::Outgoing;
 
-/// Interchanges that are put as what is sent.
+/// Interchanges that were submitted, put as what is sent.
 pub(crate) fn plain_offers(
     alloc: Global,
-    interchanges: Vec<Vec<u8>>,
+    interchanges: Vec<ArcSlice<u8>>,
 ) -> Result<Vec<Offer>, AllocError>
     ensures { IfOk result (λ v. map offer_view v.items
-        ≡ map plain_offer (map (λ b. b.items) interchanges.items)) }
+        ≡ map plain_offer (map arc_slice_items interchanges.items)) }
 {
     let mut offers = Vec::new(alloc);
     for bytes in interchanges {
-        offers.push(Offer { item: None, bytes })?;
+        offers.push(Offer {
+            item: None,
+            bytes: Outgoing::Shared(bytes),
+        })?;
     }
     Ok(offers)
 }
@@ -38,7 +44,7 @@ pub(crate) fn item_offers(
     for (item, bytes) in items {
         offers.push(Offer {
             item: Some(item),
-            bytes,
+            bytes: Outgoing::Own(bytes),
         })?;
     }
     Ok(offers)
@@ -51,8 +57,8 @@ fn put_offer<P: Spool>(spool: &mut P, offer: &Offer) -> Result<(), TurnFault>
     ensures unput { OnErr result (AddsDeeds (P.done spool.old) (P.done spool.new) []) }
 {
     match offer.item {
-        Some(item) => Ok(spool.put(item, &offer.bytes)?),
-        None => Ok(spool.send(&offer.bytes)?),
+        Some(item) => Ok(spool.put(item, offer.bytes.bytes())?),
+        None => Ok(spool.send(offer.bytes.bytes())?),
     }
 }
 

@@ -1,6 +1,6 @@
 //! A station that takes what came, at a moment.
 
-use crate::node::{Answer, Node, NodeFault, Offer, Reason};
+use crate::node::{Answer, Node, NodeFault, Offer, Reason, sent_on};
 use crate::offering::plain_offers;
 use std::alloc::{AllocError, Global};
 use x12_envelopes::{Moment, read_header};
@@ -46,7 +46,7 @@ impl<R: Records> Node for StationAt<R> {
             return Ok(Answer::Refused(Reason::NoHeader(fault)));
         }
         match self.station.arrive(bytes, &self.at) {
-            Ok(arrival) => Ok(Answer::Sends(arrival.reply)),
+            Ok(arrival) => Ok(Answer::Sends(sent_on(arrival.reply))),
             Err(fault) => Err(fault_of(fault)),
         }
     }

@@ -11,7 +11,7 @@ use crate::station::{StationAt, fault_of};
 use crate::turn::{TurnFault, run_turn};
 use std::alloc::Global;
 use x12_envelopes::read_header;
-use x12_station::{Records, Station, StationFault};
+use x12_station::{Outgoing, Records, Station, StationFault};
 
 /// A station that submits what comes.
 pub struct Submitting<R: Records> {
@@ -43,7 +43,7 @@ fn sent_before<R: Records>(station: &mut Station<R>, bytes: &[u8]) -> Result<Ans
     match known_as(station, bytes) {
         Ok(Some(known)) => {
             if known.as_slice() == bytes {
-                Ok(Answer::Sends(Some(known)))
+                Ok(Answer::Sends(Some(Outgoing::Own(known))))
             } else {
                 Ok(Answer::Refused(Reason::NotSubmitted(StationFault::NotNew)))
             }
@@ -70,7 +70,7 @@ impl<R: Records> Node for Submitting<R> {
 
     fn take(&mut self, bytes: &[u8]) -> Result<Answer, NodeFault> {
         match self.station.submit_prepared(bytes) {
-            Ok(sent) => Ok(Answer::Sends(Some(sent.bytes))),
+            Ok(sent) => Ok(Answer::Sends(Some(Outgoing::Shared(sent.bytes)))),
             Err(StationFault::NotNew) => sent_before(&mut self.station, bytes),
             Err(StationFault::Exhausted) => Err(NodeFault::Exhausted),
             Err(StationFault::Store) => Err(NodeFault::Store),

@@ -59,7 +59,7 @@ fn take_one<N: Node, P: Spool>(
 {
     match node.take(bytes) {
         Ok(Answer::Sends(None)) => Ok(()),
-        Ok(Answer::Sends(Some(reply))) => Ok(spool.send(&reply)?),
+        Ok(Answer::Sends(Some(reply))) => Ok(spool.send(reply.bytes())?),
         Ok(Answer::Refused(reason)) => Ok(spool.set_aside(name, bytes, reason)?),
         Err(fault) => Err(fault.into()),
     }

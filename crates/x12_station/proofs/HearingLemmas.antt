@@ -1,5 +1,5 @@
 -- Bytes whose segments can't be read answer nothing.
-use Rattle.std.specs.Prelude.{◌≡◌, ◌≢◌, ℕ, ◌≤◌, List, [], ◌∷◌, ◌++◌, Some, Ok, Err, Contains, refl, ◌<◌, AllPairs, None, ◌+◌, length, map, take, Bool, count_by}
+use Rattle.std.specs.Prelude.{◌≡◌, ℕ, ◌≤◌, List, [], ◌∷◌, ◌++◌, Some, Ok, Err, Contains, refl, ◌<◌, AllPairs, None, ◌+◌, length, map, take, Bool, count_by}
 use mathlib.Core.Logic.{inl, inr}
 use Rattle.std.specs.List.{dedup}
 use Rattle.std.specs.List.Retain.{IsFiltered, DiffersFromLast}

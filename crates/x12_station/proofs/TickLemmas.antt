@@ -6,12 +6,11 @@ use Rattle.std.proofs.lemmas.List.{length-map}
 use Rattle.std.proofs.lemmas.List.Sums.{length-filter}
 use Rattle.std.proofs.lemmas.List.Elements.{All-contains, All-cons, All-filter, All-map, All-nil}
 use Rattle.x12_outbound.specs.Entry.{InterchangeRow, row_is_open}
-use Rattle.x12_outbound.specs.Ledger.{LedgerInMemory, OutboundLedger, LedgerRow, IcnsRise, NoneIsOut, after_tick, numbers_due, open_interchanges, interchange_in, row_in, row_is_due, row_sent_if_due}
+use Rattle.x12_outbound.specs.Ledger.{LedgerInMemory, OutboundLedger, LedgerRow, IcnsRise, NoneIsOut, after_tick, bytes_due, open_interchanges, interchange_in, row_in, row_is_due, row_sent_if_due}
 use Rattle.x12_outbound.specs.Schedule.{sent_at, tick_seen, unsent_schedule}
 use Rattle.x12_profile.specs.Interchange.{Bytes}
 use Rattle.x12_profile.specs.X12.{x12, submission_in_bytes}
 use Rattle.x12_station.specs.declared.cached.Cached.{Cached}
-use Rattle.x12_station.specs.working.Due.{submission_bytes}
 use Rattle.x12_station.specs.Durable.{IsHistoryOf, IsOwnSubmission, items_of, fared_entry, fared_entries}
 use Rattle.x12_station.specs.History.{submissions}
 use Rattle.x12_station.specs.Keeps.{Caches, IsReady}
@@ -27,7 +26,6 @@ use Rattle.x12_station.proofs.SeqLemmas.{pairs_head, pairs_tail}
 use Rattle.x12_station.proofs.EntryLemmas.{entries_rise}
 use Rattle.std.proofs.lemmas.List.Kept.{AllPairs-filter}
 use Rattle.x12_station.proofs.CellLemmas.{map_same_at}
-use Rattle.x12_station.proofs.ListLemmas.{contains_filter}
 
 -- Lists.
 
@@ -195,14 +193,9 @@ module _ (now : ℕ) (m : Cached) (l : LedgerInMemory) (is : l.holds ≡ after_t
     due_are = ap (filter (λ x. nat_le (schedule_of (map sending_of m.ledger.holds.rows) (x12.number x)).due seen)) (sym bytes_are)
         ∙ filter_at (λ x. nat_le (schedule_of (map sending_of m.ledger.holds.rows) (x12.number x)).due seen) (row_is_due seen) (λ (r : LedgerRow). r.interchange.bytes) m.ledger.holds.rows (λ r at. rw (schedule_is r at, is_open_row r at) refl)
 
-    copied : map (submission_bytes m.ledger.holds) (map (λ (r : LedgerRow). r.interchange.icn) (filter (row_is_due seen) m.ledger.holds.rows)) ≡ map (λ (r : LedgerRow). r.interchange.bytes) (filter (row_is_due seen) m.ledger.holds.rows)
-    unfolding interchange_in
-    copied = map_twice (submission_bytes m.ledger.holds) (λ (r : LedgerRow). r.interchange.icn) (filter (row_is_due seen) m.ledger.holds.rows)
-        ∙ map_same_at (λ (r : LedgerRow). submission_bytes m.ledger.holds r.interchange.icn) (λ (r : LedgerRow). r.interchange.bytes) (filter (row_is_due seen) m.ledger.holds.rows) (λ r at. rw (row_found m.ledger.holds.rows rise r (contains_filter (row_is_due seen) m.ledger.holds.rows r at)) refl)
-
-    pub ticks : tick x12 state now ≡ record { station = station_of l.holds m.counts s; sends = map (submission_bytes m.ledger.holds) (numbers_due now m.ledger.holds) }
-    unfolding after_tick numbers_due
-    ticks = rw (is, due_are, copied, sendings_are) refl
+    pub ticks : tick x12 state now ≡ record { station = station_of l.holds m.counts s; sends = bytes_due now m.ledger.holds }
+    unfolding after_tick bytes_due
+    ticks = rw (is, due_are, sendings_are) refl
 
 -- The open submissions are as many as the ledger's rows.
 
@@ -236,11 +229,11 @@ due_open t (r ∷ rows) = by (row_is_open r.interchange) (nat_le r.schedule.due 
     by true false le = omega arith
     by false is_due le = le
 
-pub due_bounded : (now : ℕ) (v : OutboundLedger) → length (numbers_due now v) ≤ open_interchanges v
-unfolding numbers_due open_interchanges
+pub due_bounded : (now : ℕ) (v : OutboundLedger) → length (bytes_due now v) ≤ open_interchanges v
+unfolding bytes_due open_interchanges
 due_bounded now v =
     let t = tick_seen v.tick now in
-    let due = length-map (filter (row_is_due t) v.rows) (λ (r : LedgerRow). r.interchange.icn) in
+    let due = length-map (filter (row_is_due t) v.rows) (λ (r : LedgerRow). r.interchange.bytes) in
     let all = length-filter (λ (r : LedgerRow). row_is_open r.interchange) v.rows in
     let le = due_open t v.rows in
     omega (arith, due, all, le)

@@ -23,4 +23,5 @@ pub mod Stopped
 pub mod Number
 pub mod Arriving
 pub mod Ordering
+pub mod Outgoing
 pub mod working

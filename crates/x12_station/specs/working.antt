@@ -1,7 +1,6 @@
 -- How the code works: what its own functions promise each other. No public call cites it.
 pub mod Agreeing
 pub mod Drafting
-pub mod Due
 pub mod Filing
 pub mod Heading
 pub mod Hearing

@@ -1,6 +1,7 @@
 //! Entering an interchange that may be submitted: one commit, and then it is open and was sent once.
 
 ghost use Rattle.std.specs.Prelude.{◌≡◌, ◌+◌, IsTrue, IfErr, OnOk, OnErr};
+ghost use Rattle.std.specs.Arc.{arc_slice_items};
 ghost use Rattle.x12_outbound.specs.Entry.{entry_row};
 ghost use Rattle.x12_profile.specs.X12.{x12};
 ghost use Rattle.x12_station.specs.declared.fault.StationFault.TheVariants.{Store};
@@ -34,7 +35,7 @@ pub(crate) fn enter<R: Records>(
         (station_of memory.new.ledger.holds memory.new.counts (R.content records.new)
         ≡ entered x12
         (station_of memory.old.ledger.holds memory.old.counts (R.content records.old))
-        prepared.entry.bytes.items) }
+        (arc_slice_items prepared.entry.bytes)) }
     ensures crash { MayLeave R.Records (record {
       book = prepared.book;
       seq = memory.old.seq + 1;

@@ -3,6 +3,7 @@
 
 ghost use Rattle.std.specs.Prelude.{◌≡◌, ◌≤◌, IfOk, IsTrue, length, map};
 ghost use Rattle.std.specs.List.{enumerate_from};
+ghost use Rattle.std.specs.Arc.{arc_slice_items};
 ghost use Rattle.x12_envelopes.specs.Party.{is_plain_party};
 ghost use Rattle.x12_outbound.specs.Entry.{entry_row, set_row};
 ghost use Rattle.x12_profile.specs.Interchange.{Order};
@@ -15,6 +16,7 @@ use crate::cached::Cached;
 use crate::ordering::Body;
 use crate::prepared::Prepared;
 use std::alloc::{AllocError, Global};
+use std::sync::ArcSlice;
 use x12_envelopes::{Moment, Party, SetNo, header_is_read_back, outline_is_read_back, zero_padded};
 use x12_outbound::{Entry, EntryGroup, EntrySet, Fate};
 use x12_profile::orders_are_submitted;
@@ -49,13 +51,13 @@ pub(crate) fn prepared_orders(
     to: Party,
     at: &Moment,
     orders: &[Body],
-    bytes: &[u8],
+    bytes: Vec<u8>,
 ) -> Result<Prepared, AllocError>
     requires plain { IsTrue (is_plain_party memory.now.me) }
     requires ordered { (s : Station) → Knows memory.now s →
-        IsOrdered s to at.now (map order_view orders.now) bytes.now }
+        IsOrdered s to at.now (map order_view orders.now) bytes.items }
     ensures may { IfOk result (λ p. MayEnter memory.now p.book (entry_row p.entry)) }
-    ensures bytes { IfOk result (λ p. p.entry.bytes.items ≡ bytes.now) }
+    ensures bytes { IfOk result (λ p. arc_slice_items p.entry.bytes ≡ bytes.items) }
 {
     // laws: what is written of orders is a submission, and is read back as it was meant
     orders_are_submitted();
@@ -76,7 +78,7 @@ pub(crate) fn prepared_orders(
     let entry = Entry {
         icn,
         partner: to,
-        bytes: Vec::from_slice(memory.alloc, bytes)?,
+        bytes: ArcSlice::from_vec(bytes)?,
         groups,
     };
     Ok(Prepared { entry, book })

@@ -2,6 +2,7 @@
 //! the table.
 
 ghost use Rattle.std.specs.Prelude.{◌≡◌, None, IfOk, IfErr};
+ghost use Rattle.std.specs.Arc.{arc_slice_items};
 ghost use Rattle.x12_outbound.specs.Entry.{entry_row};
 ghost use Rattle.x12_station.specs.Fault.{prepared_fault};
 ghost use Rattle.x12_station.specs.working.Prepared.{IsRowOrMemory, Knows, MayEnter};
@@ -27,7 +28,7 @@ pub(crate) struct Prepared {
 /// S4, S5, S1, S6, S7, S2, S8, S10 and S11, the first that holds; S14.
 pub(crate) fn read_prepared(memory: &Cached, bytes: &[u8]) -> Result<Prepared, StationFault>
     ensures may { IfOk result (λ p. MayEnter memory.now p.book (entry_row p.entry)) }
-    ensures bytes { IfOk result (λ p. p.entry.bytes.items ≡ bytes.now) }
+    ensures bytes { IfOk result (λ p. arc_slice_items p.entry.bytes ≡ bytes.now) }
     ensures allowed { IfOk result (λ p.
         (s : Station) → Knows memory.now s → prepared_fault s bytes.now ≡ None) }
     ensures refused { IfErr result (λ f.

@@ -1,6 +1,7 @@
 //! Submitting prepared bytes.
 
 ghost use Rattle.std.specs.Prelude.{◌≡◌, ◌∷◌, [], Some, IsTrue, IfOk, IfErr, OnErr};
+ghost use Rattle.std.specs.Arc.{arc_slice_items};
 ghost use Rattle.x12_profile.specs.X12.{x12};
 ghost use Rattle.x12_station.specs.declared.fault.StationFault.TheVariants.{Store};
 ghost use Rattle.x12_station.specs.Fault.{IsRowOrWant, prepared_fault};
@@ -14,14 +15,15 @@ use crate::fault::StationFault;
 use crate::prepared::read_prepared;
 use crate::records::Records;
 use crate::station::Station;
+use std::sync::ArcSlice;
 
 /// An interchange that was submitted, to be sent.
 #[derive(Debug, Drop)]
 pub struct Sent {
     /// The interchange control number (ISA13): 1 to 999999999.
     pub icn: u32,
-    /// The bytes from ISA through IEA, as they were submitted.
-    pub bytes: Vec<u8>,
+    /// The bytes from ISA through IEA, as they were submitted, shared.
+    pub bytes: ArcSlice<u8>,
 }
 
 impl<R: Records> Station<R> {
@@ -37,8 +39,8 @@ impl<R: Records> Station<R> {
             self.old self.new }
         ensures took { IsTrue self.new.answers → IfOk result (λ sent.
             submit x12 self.old.state bytes.now
-            ≡ Some (record { station = self.new.state; sends = sent.bytes.items ∷ [] })) }
-        ensures number { IfOk result (λ sent. sent.icn ≡ x12.number sent.bytes.items) }
+            ≡ Some (record { station = self.new.state; sends = arc_slice_items sent.bytes ∷ [] })) }
+        ensures number { IfOk result (λ sent. sent.icn ≡ x12.number (arc_slice_items sent.bytes)) }
 
         ensures refused { IsTrue self.new.answers →
             IfErr result (IsRowOrWant (prepared_fault self.old.state bytes.now)) }
@@ -50,7 +52,7 @@ impl<R: Records> Station<R> {
         let prepared = read_prepared(&self.memory, bytes)?;
         let sent = Sent {
             icn: prepared.entry.icn,
-            bytes: Vec::from_slice(self.memory.alloc, bytes)?,
+            bytes: prepared.entry.bytes.clone()?,
         };
         enter(&mut self.records, &mut self.memory, prepared)?;
         Ok(sent)

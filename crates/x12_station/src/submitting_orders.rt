@@ -1,6 +1,7 @@
 //! Submitting orders: they are written, and what is written of them is entered.
 
 ghost use Rattle.std.specs.Prelude.{◌≡◌, ◌∷◌, [], Some, IsTrue, IfOk, IfErr, OnErr, map};
+ghost use Rattle.std.specs.Arc.{arc_slice_items};
 ghost use Rattle.x12_profile.specs.X12.{x12};
 ghost use Rattle.x12_station.specs.declared.fault.StationFault.TheVariants.{Store};
 ghost use Rattle.x12_station.specs.Fault.{IsRowOrWant, orders_fault};
@@ -37,8 +38,8 @@ impl<R: Records> Station<R> {
             (submit_orders x12 self.old.state to at.now texts) self.old self.new }
         ensures took { IsTrue self.new.answers → IfOk result (λ sent.
             submit_orders x12 self.old.state to at.now (map order_view orders.now)
-            ≡ Some (record { station = self.new.state; sends = sent.bytes.items ∷ [] })) }
-        ensures number { IfOk result (λ sent. sent.icn ≡ x12.number sent.bytes.items) }
+            ≡ Some (record { station = self.new.state; sends = arc_slice_items sent.bytes ∷ [] })) }
+        ensures number { IfOk result (λ sent. sent.icn ≡ x12.number (arc_slice_items sent.bytes)) }
 
         ensures refused { IsTrue self.new.answers →
             let row = orders_fault self.old.state to at.now (map order_view orders.now) in
@@ -49,10 +50,10 @@ impl<R: Records> Station<R> {
             self.old.failures self.new.failures }
     {
         let bytes = write_orders(&self.memory, &to, at, orders)?;
-        let prepared = prepared_orders(&self.memory, to, at, orders, &bytes)?;
+        let prepared = prepared_orders(&self.memory, to, at, orders, bytes)?;
         let sent = Sent {
             icn: prepared.entry.icn,
-            bytes,
+            bytes: prepared.entry.bytes.clone()?,
         };
         enter(&mut self.records, &mut self.memory, prepared)?;
         Ok(sent)

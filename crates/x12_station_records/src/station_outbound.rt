@@ -28,6 +28,7 @@ use sql_rows::run;
 use sqlite::types::ValueRef;
 use sqlite::{Alter, Connection, Error, Row, Transaction};
 use std::alloc::Global;
+use std::sync::ArcSlice;
 use x12_envelopes::Party;
 use x12_numbers::Book;
 use x12_outbound::Entry;
@@ -161,7 +162,7 @@ fn put_together<S: Alter>(conn: &mut Connection<S>, icn: u32, head: Head) -> Res
     Ok(Entry {
         icn,
         partner: head.partner,
-        bytes: head.bytes,
+        bytes: ArcSlice::from_vec(head.bytes)?,
         groups,
     })
 }

@@ -1,26 +1,67 @@
 //! Networks of two connected hubs: ST01 is at HUB, ST02 at HUB2.
 
 use crate::fixture::{NODES, TWO_HUBS, pending_of, run_to_end, sites_of};
+use std::sync::atomic::{AtomicU64, Ordering};
 use std::test::Fail;
+use std::thread;
 use x12_core::{Action, Ask, HUB_NODE, SECOND_HUB_NODE, Site};
 use x12_nodes::Gate;
 use x12_trial::{jobs_of_nodes, moment, parties, sites};
 
-/// All calls pass, and nobody waits.
-#[derive(Drop)]
-struct Open;
+/// How often a station yields at most until it is enrolled.
+const MOST_YIELDS: u64 = 1_000_000;
 
-impl Gate for Open {
+/// All calls pass. A station waits behind its first one until each hub has enrolled both stations, its
+/// first two calls: an order that comes to a hub before is refused, and goes to no other hub.
+#[derive(Drop)]
+struct Enrolled {
+    first: AtomicU64,
+    second: AtomicU64,
+}
+
+impl Enrolled {
+    fn new() -> Enrolled {
+        Enrolled {
+            first: AtomicU64::new(0),
+            second: AtomicU64::new(0),
+        }
+    }
+
+    /// Whether each hub has enrolled both stations.
+    fn are_all(&self) -> bool {
+        self.first.load(Ordering::SeqCst) >= 2 && self.second.load(Ordering::SeqCst) >= 2
+    }
+
+    /// Waits until each hub has.
+    fn wait(&self) {
+        for _ in 0..MOST_YIELDS {
+            if self.are_all() {
+                return;
+            }
+            thread::yield_now();
+        }
+    }
+}
+
+impl Gate for Enrolled {
     fn enter(&self, _node: u16, _call: u64) -> bool {
         true
     }
 
-    fn leave(&self, _node: u16, _call: u64) {}
+    fn leave(&self, node: u16, call: u64) {
+        if node == HUB_NODE {
+            self.first.fetch_max(call, Ordering::SeqCst);
+        } else if node == SECOND_HUB_NODE {
+            self.second.fetch_max(call, Ordering::SeqCst);
+        } else if call <= 1 {
+            self.wait();
+        }
+    }
 }
 
 #[test]
 fn orders_go_from_hub_to_hub(rt: HostRuntime) -> Result<(), Fail> {
-    let ended = run_to_end(&rt, rt.alloc(), &TWO_HUBS, &Open);
+    let ended = run_to_end(&rt, rt.alloc(), &TWO_HUBS, &Enrolled::new());
     assert_eq!(rt; (ended.fault, ended.passes), (None, NODES + 1));
     assert!(rt;
         ended.links_are_whole,

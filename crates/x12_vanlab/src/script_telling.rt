@@ -97,7 +97,7 @@ pub(crate) fn push_refusal(text: &mut Vec<u8>, refused: &Refused) -> Result<(), 
 /// The interchange that a packet carries.
 fn carried(packet: &Packet) -> Option<&[u8]> {
     match &packet.load {
-        Load::Deposit(bytes) => Some(bytes),
+        Load::Deposit(sent) => Some(sent.bytes()),
         Load::Item(_, bytes) => Some(bytes),
         Load::Refusal(bytes) => Some(bytes),
         Load::Taken(_) => None,

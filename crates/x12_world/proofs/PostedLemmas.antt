@@ -1,11 +1,11 @@
 -- The postings of stations by key: what is put under a key stands behind what stood there.
-use Rattle.std.proofs.Common.{◌≡◌, ◌<◌, ◌+◌, ℕ, suc, List, [], ◌∷◌, ◌++◌, Bool, true, false, Option, Some, map, drop, get_or, length, refl, ap, sym, ◌∙◌, arith, Vec}
+use Rattle.std.proofs.Common.{◌≡◌, ◌<◌, ◌+◌, ℕ, List, [], ◌∷◌, ◌++◌, Bool, true, false, Option, Some, map, get_or, length, refl, ap, sym, ◌∙◌, arith, Vec}
 use mathlib.Core.Bool.{cond}
-use mathlib.Core.Path.{ap₂, subst}
+use mathlib.Core.Path.{subst}
 use Rattle.std.specs.Prelude.{slice_get, filter}
 use Rattle.std.specs.BTreeMap.{get, is_at}
 use Rattle.std.specs.Global.{Global}
-use Rattle.std.proofs.Common.{drop-cons, inl, inr}
+use Rattle.std.proofs.Common.{inl, inr}
 use Rattle.std.proofs.lemmas.Bool.Decides.{eqb_tells}
 use Rattle.std.proofs.lemmas.List.{append_assoc, append-nil, map-append, get_or_append_left, length-append}
 use Rattle.std.proofs.Math.Seq.{get_or-append_seam}
@@ -56,23 +56,23 @@ others_stay old new key w updates k other =
 abbrev code_key : TransactionSetKey → SetKey
 code_key v = record { sender = v.sender; icn = v.icn; group = v.group; set = v.set }
 
-pub pushed : (old mid new : Posted) (key : SetKey) (under after : Vec (Vec ℕ Global) Global) (one : Vec ℕ Global) (bytes : Bytes)
+pub pushed : (old mid new : Posted) (key : SetKey) (under after : Vec (Vec ℕ Global) Global) (one : Vec ℕ Global)
     → map (λ b. b.items) under.items ≡ bytes_under old key
     → ((k : SetKey) → is_same_key (key_view key) (key_view k) ≡ false → bytes_under mid k ≡ bytes_under old k)
-    → one.items ≡ bytes → after.items ≡ under.items ++ one ∷ []
+    → after.items ≡ under.items ++ one ∷ []
     → ((q : SetKey) → get set_key_order new q ≡ cond (is_at (set_key_order key) q) (Some after) (get set_key_order mid q))
-    → (k : SetKey) → bytes_under new k ≡ bytes_under old k ++ cond (is_same_key (key_view k) (key_view key)) (bytes ∷ []) []
-pushed old mid new key under after one bytes taken others is put updates k = by (is_same_key (key_view key) (key_view k)) refl
+    → (k : SetKey) → bytes_under new k ≡ bytes_under old k ++ cond (is_same_key (key_view k) (key_view key)) (one.items ∷ []) []
+pushed old mid new key under after one taken others put updates k = by (is_same_key (key_view key) (key_view k)) refl
   where
-    by : (t : Bool) → is_same_key (key_view key) (key_view k) ≡ t → bytes_under new k ≡ bytes_under old k ++ cond (is_same_key (key_view k) (key_view key)) (bytes ∷ []) []
+    by : (t : Bool) → is_same_key (key_view key) (key_view k) ≡ t → bytes_under new k ≡ bytes_under old k ++ cond (is_same_key (key_view k) (key_view key)) (one.items ∷ []) []
     by true same =
         ap bytes_found (updates k ∙ ap (λ b. cond b (Some after) (get set_key_order mid k)) (is_eq-key key k ∙ same))
         ∙ ap (map (λ (b : Vec ℕ Global). b.items)) put ∙ map-append (λ (b : Vec ℕ Global). b.items) under.items (one ∷ [])
-        ∙ ap₂ (λ (xs : List Bytes) b. xs ++ b ∷ []) (taken ∙ ap (λ v. bytes_under old (code_key v)) (same_key (key_view key) (key_view k) same)) is
-        ∙ sym (ap (λ b. bytes_under old k ++ cond b (bytes ∷ []) []) (key_flips (key_view k) (key_view key) ∙ same))
+        ∙ ap (λ (xs : List Bytes). xs ++ one.items ∷ []) (taken ∙ ap (λ v. bytes_under old (code_key v)) (same_key (key_view key) (key_view k) same))
+        ∙ sym (ap (λ b. bytes_under old k ++ cond b (one.items ∷ []) []) (key_flips (key_view k) (key_view key) ∙ same))
     by false other =
         others_stay mid new key (Some after) updates k other ∙ others k other ∙ sym (append-nil (bytes_under old k))
-        ∙ sym (ap (λ b. bytes_under old k ++ cond b (bytes ∷ []) []) (key_flips (key_view k) (key_view key) ∙ other))
+        ∙ sym (ap (λ b. bytes_under old k ++ cond b (one.items ∷ []) []) (key_flips (key_view k) (key_view key) ∙ other))
 
 first_posted : (k : TransactionSetKey) (q : AcceptedSet) (qs : List AcceptedSet) → posted_bytes k (q ∷ qs) ≡ cond (is_same_key k q.key) (q.bytes ∷ []) [] ++ posted_bytes k qs
 first_posted k q qs = by (is_same_key k q.key)
@@ -85,17 +85,14 @@ first_posted k q qs = by (is_same_key k q.key)
     by false = refl
 
 -- one posting more
-pub one_more : (ps : List Posting) (i : ℕ) (p : Posting) (k : TransactionSetKey) (before after : List Bytes) → i < length ps → p ≡ get_or ps i p
+pub one_more : (p : Posting) (ps : List Posting) (k : TransactionSetKey) (before after all : List Bytes)
     → after ≡ before ++ cond (is_same_key k (key_view p.key)) (p.bytes.items ∷ []) []
-    → before ++ posted_bytes k (map posting_view (drop i ps)) ≡ posted_bytes k (map posting_view ps)
-    → after ++ posted_bytes k (map posting_view (drop (i + 1) ps)) ≡ posted_bytes k (map posting_view ps)
-one_more ps i p k before after within is put was =
-    let next : i + 1 ≡ suc i = omega arith in
-    let cut : drop i ps ≡ p ∷ drop (i + 1) ps = drop-cons ps i p within ∙ ap (λ n. get_or ps i p ∷ drop n ps) (sym next) ∙ ap (λ q. q ∷ drop (i + 1) ps) (sym is) in
-    ap (λ l. l ++ posted_bytes k (map posting_view (drop (i + 1) ps))) put
-    ∙ append_assoc before (cond (is_same_key k (key_view p.key)) (p.bytes.items ∷ []) []) (posted_bytes k (map posting_view (drop (i + 1) ps)))
-    ∙ ap (λ l. before ++ l) (sym (first_posted k (posting_view p) (map posting_view (drop (i + 1) ps))))
-    ∙ ap (λ l. before ++ posted_bytes k (map posting_view l)) (sym cut)
+    → before ++ posted_bytes k (map posting_view (p ∷ ps)) ≡ all
+    → after ++ posted_bytes k (map posting_view ps) ≡ all
+one_more p ps k before after all put was =
+    ap (λ l. l ++ posted_bytes k (map posting_view ps)) put
+    ∙ append_assoc before (cond (is_same_key k (key_view p.key)) (p.bytes.items ∷ []) []) (posted_bytes k (map posting_view ps))
+    ∙ ap (λ l. before ++ l) (sym (first_posted k (posting_view p) (map posting_view ps)))
     ∙ was
 
 -- one station more

@@ -32,29 +32,25 @@ fn take_under(alloc: Global, posted: &mut Posted, key: &SetKey) -> Vec<Vec<u8>>
     }
 }
 
-/// Puts bytes behind those that stand under a key.
-fn push_under(
-    alloc: Global,
-    posted: &mut Posted,
-    key: &SetKey,
-    bytes: &[u8],
-) -> Result<(), AllocError>
+/// Puts the bytes of a posting behind those that stand under its key.
+fn push_under(alloc: Global, posted: &mut Posted, posting: Posting) -> Result<(), AllocError>
     ensures { OnOk result ((k : SetKey) → bytes_under posted.new k ≡ bytes_under posted.old k
-        ++ cond (is_same_key (key_view k) (key_view key.now)) (bytes.now ∷ []) []) }
+        ++ cond (is_same_key (key_view k) (key_view posting.key)) (posting.bytes.items ∷ []) []) }
 {
-    let mut under = take_under(alloc, posted, key);
-    under.push(Vec::from_slice(alloc, bytes)?)?;
-    posted.insert(*key, under)?;
+    let key = posting.key;
+    let mut under = take_under(alloc, posted, &key);
+    under.push(posting.bytes)?;
+    posted.insert(key, under)?;
     Ok(())
 }
 
 /// The bytes of postings, by key.
-fn by_key(alloc: Global, postings: &[Posting]) -> Result<Posted, AllocError>
-    ensures { IfOk result (λ m. IsByKey m (map posting_view postings.now)) }
+fn by_key(alloc: Global, postings: Vec<Posting>) -> Result<Posted, AllocError>
+    ensures { IfOk result (λ m. IsByKey m (map posting_view postings.items)) }
 {
     let mut posted = BTreeMap::new(alloc);
     for posting in postings {
-        push_under(alloc, &mut posted, &posting.key, &posting.bytes)?;
+        push_under(alloc, &mut posted, posting)?;
     }
     Ok(posted)
 }
@@ -74,7 +70,7 @@ fn push_posted<R: Records>(
     ensures store { CountsStation result station.old.failures station.new.failures }
 {
     let postings = station.postings()?;
-    let posted = by_key(alloc, &postings)?;
+    let posted = by_key(alloc, postings)?;
     Ok(all.push(posted)?)
 }
 

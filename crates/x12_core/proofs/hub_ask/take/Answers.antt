@@ -21,7 +21,7 @@ returns-in_err-decision-in-Deposit-clause-refused g c = λ answers.
     let h = c.args.hub.now.hub in
     let fault = c.in_err-decision-in-Deposit.field-0.0 in
     let told = c.in_err-decision-in-Deposit.ensures in
-    let of_bytes = subst (λ b. IsHubFault h (Some b) fault) c.deref.ensures.value (fault_is h c.deref.result.now fault (λ f is. (told.unreadable f).0 (ap Err is)) (told.exhausted answers)) in
+    let of_bytes = subst (λ b. IsHubFault h (Some b) fault) c.bytes.ensures (fault_is h c.bytes.result.now fault (λ f is. (told.unreadable f).0 (ap Err is)) (told.exhausted answers)) in
     handed c.from_residual.result fault (Refuses c.args.node c.args.from (load_view c.args.load.now) c.args.at.now h)
     (λ name. (ap (λ l. is_for (load_view l) (Some (IsHub h))) c.in-Deposit.is, subst (λ l. IsHubFault h (carried (load_view l)) fault) (sym c.in-Deposit.is) of_bytes))
     c.from_residual.ensures.1
@@ -32,7 +32,7 @@ returns-in_err-decision-in-Item-clause-refused g c = λ answers.
     let h = c.args.hub.now.hub in
     let fault = c.in_err-decision-in-Item.field-0.0 in
     let told = c.in_err-decision-in-Item.ensures in
-    let of_bytes = subst (λ b. IsHubFault h (Some b) fault) c.deref-in-Item.ensures.value (fault_is h c.deref-in-Item.result.now fault (λ f is. (told.unreadable f).0 (ap Err is)) (told.exhausted answers)) in
+    let of_bytes = subst (λ b. IsHubFault h (Some b) fault) c.deref.ensures.value (fault_is h c.deref.result.now fault (λ f is. (told.unreadable f).0 (ap Err is)) (told.exhausted answers)) in
     handed c.from_residual-in_err-decision-in-Item.result fault (Refuses c.args.node c.args.from (load_view c.args.load.now) c.args.at.now h)
     (λ name. (ap (λ l. is_for (load_view l) (Some (IsHub h))) c.in-Item.is, subst (λ l. IsHubFault h (carried (load_view l)) fault) (sym c.in-Item.is) of_bytes))
     c.from_residual-in_err-decision-in-Item.ensures.1

@@ -1,5 +1,6 @@
 -- A fault of the records is one of any table; and what was submitted is listed.
 use Rattle.std.proofs.Common.{ap}
+use Rattle.std.specs.Arc.{arc_slice_items}
 use Rattle.x12_core.specs.Ask.{Do, suits}
 use Rattle.x12_core.specs.Node.{IsStation}
 use Rattle.x12_core.specs.Submission.{listed}
@@ -28,12 +29,12 @@ pub returns-in_ok-sent-in-SubmitOrders-clause-submits :
     goal.returns-in_ok-sent-in-SubmitOrders-clause-submits
 returns-in_ok-sent-in-SubmitOrders-clause-submits g c = λ answers.
     let sent = c.in_ok-sent-in-SubmitOrders.sent in
-    orders_listed c.args.site.node sent.icn c.args.station.now.state c.submit_orders.new.self.state _ _ _ sent.bytes.items
+    orders_listed c.args.site.node sent.icn c.args.station.now.state c.submit_orders.new.self.state _ _ _ (arc_slice_items sent.bytes)
     (listed c.submitted.result) (c.in_ok-sent-in-SubmitOrders.ensures.took answers) c.in_ok-sent-in-SubmitOrders.ensures.number c.submitted.ensures.listed
 
 pub returns-in_ok-sent-in-SubmitPrepared-clause-submits :
     goal.returns-in_ok-sent-in-SubmitPrepared-clause-submits
 returns-in_ok-sent-in-SubmitPrepared-clause-submits g c = λ answers.
     let sent = c.in_ok-sent-in-SubmitPrepared.sent in
-    prepared_listed c.args.site.node sent.icn c.args.station.now.state c.submit_prepared.new.self.state _ sent.bytes.items
+    prepared_listed c.args.site.node sent.icn c.args.station.now.state c.submit_prepared.new.self.state _ (arc_slice_items sent.bytes)
     (listed c.submitted-in-SubmitPrepared.result) (c.in_ok-sent-in-SubmitPrepared.ensures.took answers) c.in_ok-sent-in-SubmitPrepared.ensures.number c.submitted-in-SubmitPrepared.ensures.listed

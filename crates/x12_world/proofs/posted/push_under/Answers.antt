@@ -4,5 +4,5 @@ use Rattle.x12_world.proofs.posted.push_under.Goals as goal
 
 pub returns : goal.returns
 returns c =
-    pushed c.args.posted.now c.take_under-under.new.posted c.insert.new.self c.args.key.now c.take_under-under.result c.push.new.self c.in_ok-from_slice.field-0 c.args.bytes.now
-    c.take_under-under.ensures.taken c.take_under-under.ensures.others c.in_ok-from_slice.ensures.items c.in_ok-push.ensures.items c.in_ok-insert.ensures.updates.0
+    pushed c.args.posted.now c.take_under-under.new.posted c.insert.new.self c.args.posting.key c.take_under-under.result c.push.new.self c.args.posting.bytes
+    c.take_under-under.ensures.taken c.take_under-under.ensures.others c.in_ok-push.ensures.items c.in_ok-insert.ensures.updates.0

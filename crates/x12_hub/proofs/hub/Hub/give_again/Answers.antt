@@ -1,4 +1,4 @@
--- What was refused is given again as it stands; a boxed item is put back in one commit.
+-- What was refused is given again as it stands; a boxed item is put back, in one commit where it doesn't wait.
 use Rattle.std.proofs.Common.{rules}
 use mathlib.Core.Logic.{inl}
 use Rattle.x12_hub.proofs.hub.Hub.give_again.Goals.{in-Boxed+in_ok-put_back-in-Boxed, in-Refused}

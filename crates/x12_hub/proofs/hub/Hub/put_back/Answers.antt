@@ -5,8 +5,23 @@ use Rattle.x12_hub.specs.Hub.{Boxed, decided}
 use Rattle.x12_hub.specs.HubView.{HubView}
 use Rattle.x12_hub.proofs.SoundLemmas.{sound_put_back}
 use Rattle.x12_hub.proofs.StepLemmas.{put_back_is, keeps_put_back}
-use Rattle.x12_hub.proofs.StoppedLemmas.{hub_written}
+use Rattle.x12_hub.proofs.StoppedLemmas.{hub_untouched, hub_written}
+use Rattle.x12_hub.proofs.AgainLemmas.{still_waits}
 use Rattle.x12_hub.proofs.hub.Hub.put_back.Goals as goal
+
+-- it waits there still
+pub returns-then-contains-clause-back : goal.returns-then-contains-clause-back
+returns-then-contains-clause-back g c =
+    rw (← c.self.view_is)
+    (λ answers.
+    let keeps = c.self.invariant.2 answers in
+    let s = g.H.HubRecords.content c.self.inside.records in
+    still_waits c.self.inside.cached.me s c.args.node c.args.item (g.met.H.HubRecords.sound c.self.inside.records c.self.invariant.0 answers) (sym (keeps.waiting c.args.node c.args.item) ∙ sym c.contains.ensures ∙ c.if-contains.true))
+
+pub returns-then-contains-clause-crash : goal.returns-then-contains-clause-crash
+returns-then-contains-clause-crash g c =
+    rw (← c.self.view_is)
+    (hub_untouched g.H.HubRecords _ c.self.inside.cached.me (λ d answers may. g.met.H.HubRecords.left_is_held c.self.inside.records d c.self.invariant.0 answers may))
 
 pub write_put-requires-clause-fits : goal.write_put-requires-clause-fits
 write_put-requires-clause-fits g c = λ answers.

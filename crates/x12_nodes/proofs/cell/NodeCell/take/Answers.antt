@@ -5,6 +5,7 @@ use Rattle.x12_core.specs.Core.{core_answers, core_failures, node_of}
 use Rattle.x12_core.specs.View.{ask_view, packet_view}
 use Rattle.x12_nodes.specs.Cell.{IsCellRefusal, fault_of_core, stamp_may_follow}
 use Rattle.x12_nodes.specs.Log.{LogEntry, IsStepOf}
+use Rattle.x12_nodes.specs.declared.fault.CellFault.TheVariants.{Memory}
 use Rattle.x12_nodes.specs.View.{log_entry_view, receipt_view}
 use Rattle.x12_nodes.proofs.CellLemmas.{cell, copies_known, did_step, is_enough, receipt_known, refused_by, replayed_more}
 use Rattle.x12_outbound.proofs.SubmittingLemmas.{handed}
@@ -48,6 +49,17 @@ returns-clause-took g c =
       receipt = receipt_known old.site.node c.args.stamp k (log_entry_view entry) (receipt_view c.written-entry.result.1) _ c.written-entry.ensures.receipt c.written-entry.ensures.told c.written-entry.ensures.stamp (ap (λ (e : LogEntry). e.ask) is);
       sent = copies_known (map packet_view) c.copies-copies.result.items _ c.copies-copies.ensures refl;
     })
+
+pub returns-in_err-reserve-clause-refused : goal.returns-in_err-reserve-clause-refused
+returns-in_err-reserve-clause-refused g c =
+    rw (← c.self.view_is)
+    (λ answers.
+    let old = c.self.inside in
+    let k = ask_view c.args.ask in
+    let was = cell old.site old.opening (map log_entry_view old.log.items) old.last (node_of old.core) (core_answers old.core) (core_failures old.core) in
+    handed c.from_residual-in_err-reserve.result c.in_err-reserve.field-0.0 (IsCellRefusal was c.args.stamp k) (λ e f. f ≡ Memory)
+    (λ f same. subst (IsCellRefusal was c.args.stamp k) (sym same) (sym c.if-not-suits.ensures))
+    c.from_residual-in_err-reserve.ensures.1)
 
 pub returns-in_err-did-clause-refused : goal.returns-in_err-did-clause-refused
 returns-in_err-did-clause-refused g c =

@@ -23,4 +23,4 @@ returns c =
     let same : map group_row c.loop-group.groups.items ≡ map pending_group (map sent_group (map (group_view d) gs)) =
     made ∙ ap (map (λ g. pending_group (sent_group (group_view d g)))) c.deref-group-items.ensures.value
     ∙ sym (map_twice pending_group (λ g. sent_group (group_view d g)) gs) ∙ ap (map pending_group) (sym (map_twice sent_group (group_view d) gs)) in
-    rw (same, c.in_ok-from_slice.ensures.items) refl
+    rw (same, c.in_ok-from_slice.ensures.ok) refl

@@ -49,17 +49,17 @@ returns-clause-took g c = λ answers.
     let was = c.self.invariant in
     let held = was.held (c.in_ok-enter.ensures.stands.never_won_back answers) in
     let old = station_of m.ledger.holds m.counts s in
-    rw (← c.self.view_is)
+    rw (← c.self.view_is, c.in_ok-clone.ensures.cases ∙ c.in_ok-prepared.ensures.bytes)
     (orders_taken old c.args.to c.args.at.now (map order_view c.args.orders.now) c.in_ok-bytes.bytes.items
     (station_of c.enter.new.memory.ledger.holds c.enter.new.memory.counts (g.R.Records.content c.enter.new.records))
     (c.in_ok-bytes.ensures.ordered old (knows_held m s was.ready held))
-    (c.in_ok-enter.ensures.entered answers ∙ ap (entered x12 old) (c.in_ok-prepared.ensures.bytes ∙ c.deref.ensures.value)))
+    (c.in_ok-enter.ensures.entered answers ∙ ap (entered x12 old) c.in_ok-prepared.ensures.bytes))
 
 pub returns-clause-number : goal.returns-clause-number
 returns-clause-number g c =
     let p = c.in_ok-prepared.prepared in
     number_entered c.self.inside.memory p.book (entry_row p.entry) c.in_ok-prepared.ensures.may
-    ∙ ap (λ b. x12.number b) (c.in_ok-prepared.ensures.bytes ∙ c.deref.ensures.value)
+    ∙ ap x12.number (sym c.in_ok-clone.ensures.cases)
 
 pub returns-in_err-bytes-clause-crash : goal.returns-in_err-bytes-clause-crash
 returns-in_err-bytes-clause-crash g c =
@@ -73,6 +73,12 @@ returns-in_err-prepared-clause-crash g c =
     let was = c.self.invariant in
     rw (← c.self.view_is) (whole g.R.Records _ m.ledger.holds m.ledger.holds m.counts m.counts (λ d answers may. g.met.R.Records.left_is_held c.self.inside.records d was.valid answers may) (step_untouched g.R.Records _))
 
+pub returns-in_err-clone-clause-crash : goal.returns-in_err-clone-clause-crash
+returns-in_err-clone-clause-crash g c =
+    let m = c.self.inside.memory in
+    let was = c.self.invariant in
+    rw (← c.self.view_is) (whole g.R.Records _ m.ledger.holds m.ledger.holds m.counts m.counts (λ d answers may. g.met.R.Records.left_is_held c.self.inside.records d was.valid answers may) (step_untouched g.R.Records _))
+
 pub returns-in_err-enter-clause-crash : goal.returns-in_err-enter-clause-crash
 returns-in_err-enter-clause-crash g c =
     let m = c.self.inside.memory in
@@ -82,7 +88,7 @@ returns-in_err-enter-clause-crash g c =
     let p = c.in_ok-prepared in
     rw (← c.self.view_is)
     (whole g.R.Records _ m.ledger.holds n.ledger.holds m.counts n.counts (λ d answers may. g.met.R.Records.left_is_held c.enter.new.records d c.enter.ensures.stands.valid answers may)
-    (step_committed g.R.Records _ _ c.enter.ensures.crash (λ answers. orders_left m was.ready p.prepared.book (entry_row p.prepared.entry) p.ensures.may s (was.held answers) c.args.to c.args.at.now (map order_view c.args.orders.now) c.in_ok-bytes.bytes.items (p.ensures.bytes ∙ c.deref.ensures.value) c.in_ok-bytes.ensures.ordered)))
+    (step_committed g.R.Records _ _ c.enter.ensures.crash (λ answers. orders_left m was.ready p.prepared.book (entry_row p.prepared.entry) p.ensures.may s (was.held answers) c.args.to c.args.at.now (map order_view c.args.orders.now) c.in_ok-bytes.bytes.items p.ensures.bytes c.in_ok-bytes.ensures.ordered)))
 
 pub returns-clause-crash : goal.returns-clause-crash
 returns-clause-crash g c =
@@ -93,4 +99,4 @@ returns-clause-crash g c =
     let p = c.in_ok-prepared in
     rw (← c.self.view_is)
     (whole g.R.Records _ m.ledger.holds n.ledger.holds m.counts n.counts (λ d answers may. g.met.R.Records.left_is_held c.enter.new.records d c.enter.ensures.stands.valid answers may)
-    (step_committed g.R.Records _ _ c.enter.ensures.crash (λ answers. orders_left m was.ready p.prepared.book (entry_row p.prepared.entry) p.ensures.may s (was.held answers) c.args.to c.args.at.now (map order_view c.args.orders.now) c.in_ok-bytes.bytes.items (p.ensures.bytes ∙ c.deref.ensures.value) c.in_ok-bytes.ensures.ordered)))
+    (step_committed g.R.Records _ _ c.enter.ensures.crash (λ answers. orders_left m was.ready p.prepared.book (entry_row p.prepared.entry) p.ensures.may s (was.held answers) c.args.to c.args.at.now (map order_view c.args.orders.now) c.in_ok-bytes.bytes.items p.ensures.bytes c.in_ok-bytes.ensures.ordered)))

@@ -1,4 +1,5 @@
 use Rattle.std.proofs.Common.{◌≡◌, ap, sym, subst, ◌∙◌}
+use Rattle.std.specs.Arc.{arc_slice_items}
 use Rattle.x12_outbound.specs.Entry.{entry_row}
 use Rattle.x12_profile.specs.X12.{x12}
 use Rattle.x12_outbound.proofs.SubmittingLemmas.{handed}
@@ -48,16 +49,16 @@ returns-clause-took g c = λ answers.
     let x = c.args.bytes.now in
     let old = station_of m.ledger.holds m.counts s in
     rw (← c.self.view_is)
-    (submit_taken old x c.in_ok-from_slice.field-0.items (station_of c.enter.new.memory.ledger.holds c.enter.new.memory.counts (g.R.Records.content c.enter.new.records))
+    (submit_taken old x (arc_slice_items c.in_ok-clone.field-0) (station_of c.enter.new.memory.ledger.holds c.enter.new.memory.counts (g.R.Records.content c.enter.new.records))
     (c.in_ok-prepared.ensures.allowed old (knows_held m s was.ready held))
     (c.in_ok-enter.ensures.entered answers ∙ ap (entered x12 old) c.in_ok-prepared.ensures.bytes)
-    c.in_ok-from_slice.ensures.items)
+    (c.in_ok-clone.ensures.cases ∙ c.in_ok-prepared.ensures.bytes))
 
 pub returns-clause-number : goal.returns-clause-number
 returns-clause-number g c =
     let p = c.in_ok-prepared.prepared in
     number_entered c.self.inside.memory p.book (entry_row p.entry) c.in_ok-prepared.ensures.may
-    ∙ ap (λ b. x12.number b) (c.in_ok-prepared.ensures.bytes ∙ sym c.in_ok-from_slice.ensures.items)
+    ∙ ap x12.number (sym c.in_ok-clone.ensures.cases)
 
 pub returns-in_err-prepared-clause-crash : goal.returns-in_err-prepared-clause-crash
 returns-in_err-prepared-clause-crash g c =
@@ -65,8 +66,8 @@ returns-in_err-prepared-clause-crash g c =
     let was = c.self.invariant in
     rw (← c.self.view_is) (whole g.R.Records _ m.ledger.holds m.ledger.holds m.counts m.counts (λ d answers may. g.met.R.Records.left_is_held c.self.inside.records d was.valid answers may) (step_untouched g.R.Records _))
 
-pub returns-in_err-from_slice-clause-crash : goal.returns-in_err-from_slice-clause-crash
-returns-in_err-from_slice-clause-crash g c =
+pub returns-in_err-clone-clause-crash : goal.returns-in_err-clone-clause-crash
+returns-in_err-clone-clause-crash g c =
     let m = c.self.inside.memory in
     let was = c.self.invariant in
     rw (← c.self.view_is) (whole g.R.Records _ m.ledger.holds m.ledger.holds m.counts m.counts (λ d answers may. g.met.R.Records.left_is_held c.self.inside.records d was.valid answers may) (step_untouched g.R.Records _))

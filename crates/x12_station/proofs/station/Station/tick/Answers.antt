@@ -1,8 +1,7 @@
 use Rattle.std.proofs.Common.{ap, arith, refl}
 use Rattle.std.specs.Prelude.{length}
 use Rattle.std.proofs.lemmas.List.{length-map}
-use Rattle.x12_outbound.specs.Ledger.{numbers_due}
-use Rattle.x12_station.specs.working.Due.{submission_bytes}
+use Rattle.std.specs.Arc.{arc_slice_items}
 use Rattle.x12_station.proofs.TickLemmas.{ready_after, keeps_after, durable_after, due_bounded, ticks}
 use Rattle.x12_station.proofs.StoppedLemmas.{step_untouched, whole}
 use Rattle.x12_station.proofs.station.Station.tick.Goals as goal
@@ -54,7 +53,6 @@ pub returns-clause-bounded : goal.returns-clause-bounded
 returns-clause-bounded g c =
     let v = c.self.inside.memory.ledger.holds in
     let n = ap length c.in_ok-due.ensures in
-    let k = length-map (numbers_due c.args.now v) (submission_bytes v) in
-    let l = length-map c.in_ok-due.due.items (λ b. b.items) in
+    let l = length-map c.in_ok-due.due.items arc_slice_items in
     let le = due_bounded c.args.now v in
-    rw (← c.self.view_is) (omega (arith, n, k, l, le))
+    rw (← c.self.view_is) (omega (arith, n, l, le))
