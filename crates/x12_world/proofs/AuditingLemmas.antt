@@ -2,7 +2,7 @@
 use Rattle.std.proofs.Common.{◌≡◌, ◌≢◌, ℕ, suc, ◌<◌, List, [], ◌∷◌, Bool, true, false, ◌&&◌, ◌==◌, Option, Some, None, map, find, flat_map, get_or, inl, inr, Vec, Result, Ok, Err, IfOk, option_map, refl, ap, sym, ◌∙◌, arith}
 use mathlib.Core.Bool.{cond}
 use Rattle.std.specs.Prelude.{option_and_then, bytes_eq, is_some, slice_get, IsTrue, IfErr, length, set}
-use mathlib.Core.Path.{ap₂, subst}
+use mathlib.Core.Path.{subst}
 use Rattle.std.specs.Result.{IsErrAnd}
 use Rattle.std.proofs.Math.Seq.{map-set_same}
 use Rattle.std.proofs.lemmas.List.{get_or-map, length-map}
@@ -13,11 +13,11 @@ use Rattle.x12_station.specs.Station.{Station}
 use Rattle.std.specs.Global.{Global}
 use Rattle.std.specs.Option.{option_or}
 use Rattle.std.specs.List.{All, AllPairs, list_all}
-use Rattle.x12_inbound.specs.declared.posting.Posting.{Posting}
-use Rattle.x12_inbound.specs.Posting.{posting_view}
+use Rattle.x12_inbound.specs.Register.{posted_in}
 use Rattle.std.proofs.lemmas.Bool.Decides.{eqb_tells}
 use Rattle.std.proofs.lemmas.List.Elements.{All-head, All-tail}
 use Rattle.std.proofs.lemmas.List.Folds.{find-append}
+use Rattle.x12_acks.specs.Accepted.{AcceptedSet}
 use Rattle.x12_acks.specs.Key.{is_same_key}
 use Rattle.x12_acks.specs.Submission.{TransactionSetKey}
 use Rattle.x12_judge.specs.Agreement.{is_same_party}
@@ -26,8 +26,8 @@ use Rattle.x12_profile.specs.X12.{x12}
 use Rattle.x12_station.specs.History.{Item, postings, submissions, submission_under}
 use Rattle.x12_station.specs.Key.{OwnSet, own_fate, own_key, own_set, own_sets}
 use Rattle.x12_world.specs.Asking.{states_of, IsMissed}
-use Rattle.x12_world.specs.Audit.{Audit, audit, audit_of, station_named, stations_of}
-use Rattle.x12_world.specs.Auditing.{posted_bytes, found_under, held_under, held_set_view, set_under, station_among}
+use Rattle.x12_world.specs.Audit.{Audit, NoAuditIsBad, audit, audit_of, station_named, stations_of}
+use Rattle.x12_world.specs.Auditing.{bytes_of_posting, first_under, found_under, held_under, held_set_view, set_under, station_among}
 use Rattle.x12_world.specs.Placing.{AddressedSet, addressed}
 use Rattle.x12_world.specs.World.{World}
 use Rattle.x12_world.specs.Running.{all_answer}
@@ -35,6 +35,7 @@ use Rattle.x12_world.specs.Submission.{NumbersRise}
 use Rattle.x12_world.specs.declared.placing.Addressed.{Addressed}
 use Rattle.x12_world.specs.declared.refused.Refused.{Refused}
 use Rattle.x12_world.proofs.AskingLemmas.{state_there}
+use Rattle.x12_world.proofs.PostedLemmas.{first_is_found}
 use Rattle.x12_numbers.proofs.Shelf.{found_passes, option_or_none, some_inj}
 use Rattle.x12_outbound.proofs.FirstEvidenceLemmas.{same_key}
 use Rattle.x12_world.proofs.RunningLemmas.{answered_before, answers_there, if_err}
@@ -144,12 +145,13 @@ there_so ss party s (Ok o) found = λ some. ap is_some found
 there_so ss party s (Err e) found = tt
 
 -- what its receiver has
-pub found_there : (ss : List Station) (party : Party) (k : TransactionSetKey) (bytes : Bytes) (s : Station) (ps : List Posting) (count : ℕ) (intact : Bool) → station_among ss party ≡ Some s
-    → map posting_view ps ≡ postings x12 s.items → count ≡ length (posted_bytes k (map posting_view ps)) → intact ≡ list_all (bytes_eq bytes) (posted_bytes k (map posting_view ps))
-    → (Some count, intact) ≡ found_under (station_among ss party) k bytes
-found_there ss party k bytes s ps count intact found posted counted all =
-    ap₂ (λ c i. (Some c, i)) (counted ∙ ap (λ qs. length (posted_bytes k qs)) posted) (all ∙ ap (λ qs. list_all (bytes_eq bytes) (posted_bytes k qs)) posted)
-    ∙ sym (ap (λ o. found_under o k bytes) found)
+pub first_there : (ss : List Station) (party : Party) (k : TransactionSetKey) (bytes : Bytes) (s : Station) (o : Option AcceptedSet) (told : ℕ × Bool) → station_among ss party ≡ Some s
+    → o ≡ posted_in (postings x12 s.items) k → told ≡ (length (bytes_of_posting o), list_all (bytes_eq bytes) (bytes_of_posting o))
+    → (Some told.0, told.1) ≡ first_under (station_among ss party) k bytes
+first_there ss party k bytes s o told found posted counted =
+    ap (λ t. (Some t.0, t.1)) counted
+    ∙ ap (λ q. (Some (length (bytes_of_posting q)), list_all (bytes_eq bytes) (bytes_of_posting q))) posted
+    ∙ sym (ap (λ r. first_under r k bytes) found)
 
 abbrev pub pair : AddressedSet → Fate → AddressedSet × Fate
 pair set fate = (set, fate)
@@ -181,6 +183,29 @@ module _ (ss : List Station) (w : World) (are : stations_of w ≡ ss) (k : Trans
 
   pub audited : Some (pair set fate) ≡ option_and_then (λ s. held_under s k) (station_among ss k.sender) → Some (audit_by k set fate found) ≡ audit x12 w k
   audited e = of_sender (station_among ss k.sender) e ∙ ap (λ rs. option_and_then (λ s. option_map (audit_of x12 w s) (own_set x12 s.items k)) (station_among rs k.sender)) (sym are)
+
+-- a set that its sender hasn't submitted has no audit
+module _ (w : World) (k : TransactionSetKey) where
+  of_none : (s : Station) (o : Option OwnSet) → ◌≡◌ {A = Option (AddressedSet × Fate)} None (option_map (λ c. (addressed c, own_fate x12 s.me s.hubs s.items c)) o) → None ≡ option_map (audit_of x12 w s) o
+  of_none s None e = refl
+  of_none s (Some c) e = absurd cc
+
+  of_stranger : (o : Option Station) → None ≡ option_and_then (λ s. held_under s k) o → None ≡ option_and_then (λ s. option_map (audit_of x12 w s) (own_set x12 s.items k)) o
+  of_stranger None e = refl
+  of_stranger (Some s) e = of_none s (own_set x12 s.items k) e
+
+  pub unheld : (ss : List Station) → stations_of w ≡ ss → None ≡ option_and_then (λ s. held_under s k) (station_among ss k.sender) → None ≡ audit x12 w k
+  unheld ss are e = of_stranger (station_among ss k.sender) e ∙ ap (λ rs. option_and_then (λ s. option_map (audit_of x12 w s) (own_set x12 s.items k)) (station_among rs k.sender)) (sym are)
+
+-- where no audit is bad, the first posting under the key is enough
+pub audited_first : (ss : List Station) (w : World) → stations_of w ≡ ss → NoAuditIsBad x12 w → (k : TransactionSetKey) (set : AddressedSet) (fate : Fate) (found : Option ℕ × Bool)
+    → found ≡ first_under (station_among ss set.receiver) k set.bytes → Some (pair set fate) ≡ option_and_then (λ s. held_under s k) (station_among ss k.sender)
+    → Some (audit_by k set fate found) ≡ audit x12 w k
+audited_first ss w are good k set fate found first held =
+    let receiver = station_among ss set.receiver in
+    let all = found_under receiver k set.bytes in
+    let is : Some (audit_by k set fate all) ≡ audit x12 w k = audited ss w are k set fate all refl held in
+    ap (λ f. Some (audit_by k set fate f)) (first ∙ first_is_found fate all.1 receiver k set.bytes (good k (audit_by k set fate all) (sym is))) ∙ is
 
 -- a fault that is handed on
 pub missed_there : {T : Type 0} (there : Bool) (r : Result T Refused) (e : Refused) → IsErrAnd r (λ f. f ≡ e) → there ≡ true → IsMissed e → IfErr r (λ f. IsMissed f × (there ≡ true))

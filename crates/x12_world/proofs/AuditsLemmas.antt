@@ -51,6 +51,9 @@ all_rise w facts k d within =
     let place = station_in_list w.nodes.listed s (get_contains (stations_of w) k s (slice_get-get_or (stations_of w) k d within)) in
     facts.numbers.of_submissions place.0 s (listed_at w.nodes facts.few place.0 (IsStation s) place.1)
 
+pub rise_among : (w : World) → ReachedFacts x12 w → (ss : List Station) → stations_of w ≡ ss → All NumbersRise ss
+rise_among w facts ss are = subst (All NumbersRise) are (all_rise w facts)
+
 pub audits_are : (w : World) (ss : List Station) (keys : List TransactionSetKey) (found : List Audit) → ReachedFacts x12 w → stations_of w ≡ ss → AreKeysOf ss keys
     → found ≡ audits_under w keys → AreAudits w found
 audits_are w ss keys found facts is are each = record {

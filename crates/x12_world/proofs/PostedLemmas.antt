@@ -1,12 +1,13 @@
 -- The postings of stations by key: what is put under a key stands behind what stood there.
-use Rattle.std.proofs.Common.{◌≡◌, ◌<◌, ◌+◌, ℕ, List, [], ◌∷◌, ◌++◌, Bool, true, false, Option, Some, map, get_or, length, refl, ap, sym, ◌∙◌, arith, Vec}
+use Rattle.std.proofs.Common.{◌≡◌, ◌<◌, ◌≤◌, ◌+◌, ◌==◌, ◌&&◌, ℕ, suc, not, nat_le, List, [], ◌∷◌, ◌++◌, Bool, true, false, Option, Some, None, map, get_or, length, refl, ap, sym, ◌∙◌, arith, Vec}
 use mathlib.Core.Bool.{cond}
 use mathlib.Core.Path.{subst}
-use Rattle.std.specs.Prelude.{slice_get, filter}
+use Rattle.std.specs.Prelude.{bytes_eq, slice_get, filter}
+use Rattle.std.specs.List.{list_all}
 use Rattle.std.specs.BTreeMap.{get, is_at}
 use Rattle.std.specs.Global.{Global}
 use Rattle.std.proofs.Common.{inl, inr}
-use Rattle.std.proofs.lemmas.Bool.Decides.{eqb_tells}
+use Rattle.std.proofs.lemmas.Bool.Decides.{eqb_tells, leb_tells}
 use Rattle.std.proofs.lemmas.List.{append_assoc, append-nil, map-append, get_or_append_left, length-append}
 use Rattle.std.proofs.Math.Seq.{get_or-append_seam}
 use Rattle.x12_acks.specs.Accepted.{AcceptedSet}
@@ -14,6 +15,7 @@ use Rattle.x12_acks.specs.Key.{is_same_key, key_view}
 use Rattle.x12_acks.specs.Submission.{TransactionSetKey}
 use Rattle.x12_acks.specs.declared.key.SetKey.{SetKey}
 use Rattle.x12_inbound.specs.Posting.{posting_view}
+use Rattle.x12_inbound.specs.Register.{posted_in}
 use Rattle.x12_inbound.specs.declared.posting.Posting.{Posting}
 use Rattle.x12_inbound.proofs.OrderLemmas.{is_eq-set, key_flips}
 use Rattle.x12_inbound.specs.Order.{party_order}
@@ -22,13 +24,16 @@ use Rattle.std.specs.declared.cmp.Ordering.{Ordering}
 use Rattle.std.specs.declared.cmp.Ordering.TheVariants.{Less, Equal, Greater}
 use Rattle.std.specs.Ordering.{nat_cmp, ordering_then, is_eq}
 use Rattle.x12_outbound.proofs.FirstEvidenceLemmas.{same_key}
+use Rattle.x12_outbound.specs.declared.fate.Fate.{Fate}
+use Rattle.x12_outbound.specs.declared.fate.Fate.TheVariants.{Pending, Accepted, Rejected}
 use Rattle.x12_profile.specs.Interchange.{Bytes}
 use Rattle.x12_profile.specs.X12.{x12}
 use Rattle.x12_station.specs.History.{postings}
 use Rattle.x12_station.specs.Seen.{StationView}
 use Rattle.x12_station.specs.Station.{Station}
 use Rattle.x12_world.specs.Asking.{states_of}
-use Rattle.x12_world.specs.Auditing.{posted_bytes}
+use Rattle.x12_world.specs.Audit.{postings_are_bad}
+use Rattle.x12_world.specs.Auditing.{bytes_of_posting, first_bytes, first_under, found_under, posted_bytes}
 use Rattle.x12_world.specs.Posted.{Posted, set_key_order, bytes_found, bytes_under, ArePosted, IsByKey, IsOneMore}
 use Rattle.x12_world.proofs.AskingLemmas.{state_there}
 
@@ -83,6 +88,52 @@ first_posted k q qs = by (is_same_key k q.key)
     by : (t : Bool) → map (λ (r : AcceptedSet). r.bytes) (cond t (q ∷ rest) rest) ≡ cond t (q.bytes ∷ []) [] ++ map (λ (r : AcceptedSet). r.bytes) rest
     by true = refl
     by false = refl
+
+-- no fate suits two
+not_few : (n : ℕ) → nat_le (suc (suc n)) 1 ≡ false
+not_few n = elim (leb_tells (suc (suc n)) 1) [
+  | inl few ↦ let low = few.1 in absurd (omega (arith, low))
+  | inr many ↦ many.0
+]
+
+not_so_few : (n m : ℕ) → m ≤ 1 → (suc (suc n) == m) ≡ false
+not_so_few n m low = elim (eqb_tells (suc (suc n)) m) [
+  | inl same ↦ let e = same.1 in absurd (omega (arith, low, e))
+  | inr other ↦ other.0
+]
+
+two_are_bad : (fate : Fate) (intact : Bool) (b c : Bytes) (bs : List Bytes) → postings_are_bad fate intact (Some (length (b ∷ c ∷ bs))) ≡ true
+two_are_bad Pending intact b c bs = ap (λ t. not (t && intact)) (not_few (length bs))
+two_are_bad Accepted intact b c bs = ap (λ t. not (t && intact)) (not_so_few (length bs) 1 (omega arith))
+two_are_bad Rejected intact b c bs = ap (λ t. not (t && intact)) (not_so_few (length bs) 0 (omega arith))
+
+none_more : (fate : Fate) (intact : Bool) (b : Bytes) (bs : List Bytes) → postings_are_bad fate intact (Some (length (b ∷ bs))) ≡ false → bs ≡ []
+none_more fate intact b [] good = refl
+none_more fate intact b (c ∷ bs) good = let both : true ≡ false = sym (two_are_bad fate intact b c bs) ∙ good in absurd cc
+
+-- where an audit isn't bad, the first posting under a key is all that stand under it
+pub first_is_all : (fate : Fate) (intact : Bool) (k : TransactionSetKey) (qs : List AcceptedSet) → postings_are_bad fate intact (Some (length (posted_bytes k qs))) ≡ false → first_bytes k qs ≡ posted_bytes k qs
+first_is_all fate intact k [] good = refl
+first_is_all fate intact k (q ∷ qs) good = by (is_same_key k q.key) refl (first_is_all fate intact k qs)
+  where
+    all : (t : Bool) → is_same_key k q.key ≡ t → posted_bytes k (q ∷ qs) ≡ cond t (q.bytes ∷ []) [] ++ posted_bytes k qs
+    all t e = first_posted k q qs ∙ ap (λ b. cond b (q.bytes ∷ []) [] ++ posted_bytes k qs) e
+
+    first : (t : Bool) → is_same_key k q.key ≡ t → first_bytes k (q ∷ qs) ≡ bytes_of_posting (cond t (Some q) (posted_in qs k))
+    first t e = ap (λ b. bytes_of_posting (cond b (Some q) (posted_in qs k))) (key_flips q.key k ∙ e)
+
+    good_so : (t : Bool) → is_same_key k q.key ≡ t → postings_are_bad fate intact (Some (length (cond t (q.bytes ∷ []) [] ++ posted_bytes k qs))) ≡ false
+    good_so t e = subst (λ bs. postings_are_bad fate intact (Some (length bs)) ≡ false) (all t e) good
+
+    by : (t : Bool) → is_same_key k q.key ≡ t → (postings_are_bad fate intact (Some (length (posted_bytes k qs))) ≡ false → first_bytes k qs ≡ posted_bytes k qs)
+        → first_bytes k (q ∷ qs) ≡ posted_bytes k (q ∷ qs)
+    by true same later = first true same ∙ ap (λ bs. q.bytes ∷ bs) (sym (none_more fate intact q.bytes (posted_bytes k qs) (good_so true same))) ∙ sym (all true same)
+    by false other later = first false other ∙ later (good_so false other) ∙ sym (all false other)
+
+pub first_is_found : (fate : Fate) (intact : Bool) (receiver : Option Station) (k : TransactionSetKey) (bytes : Bytes)
+    → postings_are_bad fate intact (found_under receiver k bytes).0 ≡ false → first_under receiver k bytes ≡ found_under receiver k bytes
+first_is_found fate intact None k bytes good = refl
+first_is_found fate intact (Some s) k bytes good = ap (λ bs. (Some (length bs), list_all (bytes_eq bytes) bs)) (first_is_all fate intact k (postings x12 s.items) good)
 
 -- one posting more
 pub one_more : (p : Posting) (ps : List Posting) (k : TransactionSetKey) (before after all : List Bytes)

@@ -14,7 +14,7 @@ use Rattle.x12_core.specs.declared.submission.Listed.{Listed}
 use Rattle.x12_world.specs.Asking.{states_of, IsMissed}
 use Rattle.x12_world.specs.Audit.{station_named}
 use Rattle.x12_world.specs.Auditing.{station_among}
-use Rattle.x12_world.specs.Reach.{IsReachable, ReachLaws}
+use Rattle.x12_world.specs.Reach.{IsReachable, ReachedFacts, ReachLaws}
 use Rattle.x12_world.specs.declared.hubs.Hubs.{Hubs as CodeHubs}
 use Rattle.x12_world.specs.Running.{all_answer, beside, hubs_in, nodes_answer, station_nodes, world_of}
 use Rattle.x12_world.specs.Runs.{Runs}
@@ -54,13 +54,17 @@ module _ {H R : Type 0} (h : CodeHubs H) (ss rs : List (StationView R)) (held : 
     listed = λ answers. subst (λ ts. AreListed ts xs) (sym (same (stations_answer h rs answers))) (was.listed (was_so answers));
   }
 
+  -- what holds of the network that was asked
+  pub facts_so : ReachLaws x12 → IsTrue (nodes_answer h rs) → ReachedFacts x12 (world_of h ss held)
+  facts_so laws answers = laws.facts (world_of h ss held) (was.reached (was_so answers))
+
   -- the numbers of each station's submissions rise
   pub rise_so : ReachLaws x12 → IsTrue (nodes_answer h rs) → All NumbersRise (states_of ss)
   rise_so laws answers k d within =
       let high : suc k ≤ length ss = let l = length-map ss (λ (s : StationView _). s.state) in omega (arith, within, l) in
       let hubs = hubs_in h in
       let there = listed_beside hubs (station_nodes ss) (suc k) (below hubs ss (suc k) (few_numbers h ss was.few) high) ∙ place_at ss k d within in
-      (laws.facts (world_of h ss held) (was.reached (was_so answers))).numbers.of_submissions (suc k) (get_or (states_of ss) k d) there
+      (facts_so laws answers).numbers.of_submissions (suc k) (get_or (states_of ss) k d) there
 
 -- the station of a party, of a network
 pub among_is : {H R : Type 0} → (h : CodeHubs H) (ss : List (StationView R)) (held : List (Vec Packet Global)) (party : Party) → station_named (world_of h ss held) party ≡ station_among (states_of ss) party

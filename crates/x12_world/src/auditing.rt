@@ -1,9 +1,9 @@
 //! An audit: what is found of a submitted set at its sender and at its receiver.
 
-ghost use Rattle.std.specs.Prelude.{◌≡◌, ◌<◌, All, IsTrue, is_some, true, IfErr, IfOk, length, map, bytes_eq};
+ghost use Rattle.std.specs.Prelude.{◌≡◌, ◌<◌, All, IsTrue, is_some, true, IfErr, IfOk, bytes_eq, length};
 ghost use Rattle.std.specs.Prelude.{option_and_then, option_map};
 ghost use Rattle.std.specs.List.{AllPairs, list_all};
-ghost use Rattle.x12_acks.specs.Key.{is_same_key, key_view};
+ghost use Rattle.x12_acks.specs.Key.{key_view};
 ghost use Rattle.x12_inbound.specs.Posting.{posting_view};
 ghost use Rattle.x12_profile.specs.X12.{x12};
 ghost use Rattle.x12_station.specs.Fault.{IsOfRecords};
@@ -14,8 +14,8 @@ ghost use Rattle.x12_profile.specs.Stop.{CountsFailures};
 ghost use Rattle.x12_world.specs.Failing.{CountsOne, CountsStation, station_failures};
 ghost use Rattle.x12_world.specs.Asking.{states_of, IsMissed};
 ghost use Rattle.x12_world.specs.Audit.{audit, station_named};
-ghost use Rattle.x12_world.specs.Auditing.{audit_view, posted_bytes, found_under, held_under};
-ghost use Rattle.x12_world.specs.Auditing.{held_set_view, set_under, station_among, IsAuditAmong};
+ghost use Rattle.x12_world.specs.Auditing.{audit_view, bytes_of_posting, first_under, held_under};
+ghost use Rattle.x12_world.specs.Auditing.{held_set_view, set_under, station_among, IsReachedAudit};
 ghost use Rattle.x12_world.specs.Running.{AllAnswer, all_answer};
 ghost use Rattle.x12_world.specs.Submission.{NumbersRise};
 
@@ -31,45 +31,6 @@ use x12_hub::HubRecords;
 use x12_inbound::Posting;
 use x12_outbound::Fate;
 use x12_station::{Records, Station, StationFault};
-
-/// Whether two keys are the same.
-fn is_key(one: &SetKey, other: &SetKey) -> bool
-    ensures { result ≡ is_same_key (key_view one.now) (key_view other.now) }
-{
-    one.sender == other.sender
-        && one.icn == other.icn
-        && one.group == other.group
-        && one.set == other.set
-}
-
-/// How many postings have this key.
-fn count_under(postings: &[Posting], key: &SetKey) -> u64
-    ensures { result ≡ length (posted_bytes (key_view key.now) (map posting_view postings.now)) }
-{
-    let mut count = 0u64;
-    for posting in postings {
-        if is_key(key, &posting.key) {
-            count += 1;
-        }
-    }
-    count
-}
-
-/// Whether each posting with this key has these bytes.
-fn are_intact(postings: &[Posting], key: &SetKey, bytes: &[u8]) -> bool
-    ensures { result ≡ list_all (bytes_eq bytes.now)
-        (posted_bytes (key_view key.now) (map posting_view postings.now)) }
-{
-    for posting in postings {
-        if !is_key(key, &posting.key) {
-            continue;
-        }
-        if *bytes != *posting.bytes {
-            return false;
-        }
-    }
-    true
-}
 
 /// The bytes of the interchange that alone may hold the submitted set of this key: what the station
 /// submitted under the key's number. S13 and S14.
@@ -144,8 +105,19 @@ fn held_by_sender<R: Records>(
     held_at(alloc, &mut stations[place], key)
 }
 
-/// How many postings the station of this party, if there is one, has under a key, and whether each has
-/// these bytes. V3.
+/// How many postings these are, none or one, and whether each has these bytes.
+fn count_found(posting: &Option<Posting>, bytes: &[u8]) -> (u64, bool)
+    ensures { let found = bytes_of_posting (option_map posting_view posting.now) in
+        result ≡ (length found, list_all (bytes_eq bytes.now) found) }
+{
+    match posting {
+        Some(posting) => (1, *bytes == *posting.bytes),
+        None => (0, true),
+    }
+}
+
+/// Whether the station of this party, if there is one, has a posting under a key: how many it finds,
+/// none or one, and whether each has these bytes. V3.
 fn found_by_receiver<R: Records>(
     stations: &mut Vec<Station<R>>,
     party: &Party,
@@ -156,7 +128,7 @@ fn found_by_receiver<R: Records>(
         IsTrue (all_answer stations.old.items) }
     ensures same { IsTrue (all_answer stations.new.items) →
         states_of stations.new.items ≡ states_of stations.old.items }
-    ensures found { IsTrue (all_answer stations.new.items) → IfOk result (λ f. f ≡ found_under
+    ensures found { IsTrue (all_answer stations.new.items) → IfOk result (λ f. f ≡ first_under
         (station_among (states_of stations.old.items) party.now) (key_view key.now) bytes.now) }
     ensures refused { IfErr result IsMissed }
     ensures len { length stations.new.items ≡ length stations.old.items }
@@ -166,9 +138,9 @@ fn found_by_receiver<R: Records>(
     let Ok(place) = place_of(party, stations) else {
         return Ok((None, true));
     };
-    let postings = stations[place].postings()?;
-    let count = count_under(&postings, key);
-    Ok((Some(count), are_intact(&postings, key, bytes)))
+    let posting = stations[place].posted(key)?;
+    let (count, intact) = count_found(&posting, bytes);
+    Ok((Some(count), intact))
 }
 
 /// What is found of the submitted set of this key. V5 and V3.
@@ -181,8 +153,7 @@ fn audit_at<R: Records>(
         IsTrue (all_answer stations.old.items) }
     ensures same { IsTrue (all_answer stations.new.items) →
         states_of stations.new.items ≡ states_of stations.old.items }
-    ensures audit { IsTrue (all_answer stations.new.items) →
-        All NumbersRise (states_of stations.old.items) → IfOk result (λ o. IsAuditAmong
+    ensures audit { IsTrue (all_answer stations.new.items) → IfOk result (λ o. IsReachedAudit
         (states_of stations.old.items) (key_view key.now) (option_map audit_view o)) }
     ensures refused { IfErr result (λ r. IsMissed r × (is_some
         (station_among (states_of stations.old.items) key.now.sender) ≡ true)) }
