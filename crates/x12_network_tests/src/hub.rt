@@ -73,52 +73,130 @@ fn holds<H: HubRecords>(
     })
 }
 
+/// What a hub is asked.
+#[derive(Clone, Copy, Debug)]
+enum Ask {
+    /// A party is enrolled for a node.
+    Enrol(Party, u16),
+    /// A party is dismissed: whether it was enrolled.
+    Dismiss(Party),
+    /// Bytes are deposited: where they wait.
+    Deposit(&'static [u8]),
+    /// Bytes are deposited: whether they are refused with these bytes.
+    Refuse(&'static [u8], &'static [u8]),
+    /// A node took an item: whether it waited there.
+    Taken(u16, u32),
+    /// Whether these items alone wait for a node.
+    Wait(u16, &'static [u32]),
+    /// Whether one item alone waits for a node, with these bytes.
+    Hold(u16, u32, &'static [u8]),
+}
+
+/// What it answers.
+#[derive(Clone, Copy, Debug, PartialEq, Eq)]
+enum Answer {
+    /// The bytes wait for a node, as this item.
+    Boxed(u16, u32),
+    /// Yes.
+    Yes,
+    /// No, or the bytes are refused.
+    No,
+}
+
+/// Yes or no.
+fn whether(is_so: bool) -> Answer {
+    if is_so { Answer::Yes } else { Answer::No }
+}
+
+/// Where bytes wait, if they weren't refused.
+fn place_of(decision: &Decision) -> Answer {
+    match boxed(decision) {
+        Some((node, item)) => Answer::Boxed(node, item),
+        None => Answer::No,
+    }
+}
+
+/// What a hub answers.
+fn answered<H: HubRecords>(hub: &mut Hub<H>, ask: &Ask) -> Result<Answer, Fail> {
+    let at = moment()?;
+    Ok(match *ask {
+        Ask::Enrol(party, node) => {
+            hub.enrol(party, node)?;
+            Answer::Yes
+        }
+        Ask::Dismiss(party) => whether(hub.dismiss(&party)?),
+        Ask::Deposit(bytes) => place_of(&hub.deposit(bytes, &at)?),
+        Ask::Refuse(bytes, reply) => whether(is_refused_with(&hub.deposit(bytes, &at)?, reply)),
+        Ask::Taken(node, item) => whether(hub.taken(node, item)?),
+        Ask::Wait(node, items) => whether(hub.mailbox(node)?.as_slice() == items),
+        Ask::Hold(node, item, bytes) => whether(holds(hub, node, item, bytes)?),
+    })
+}
+
+/// Asks a hub one thing after the other, and looks at each answer.
+fn follow<H: HubRecords>(
+    rt: &impl Abort,
+    hub: &mut Hub<H>,
+    asks: &[(Ask, Answer)],
+) -> Result<(), Fail> {
+    for (ask, expected) in asks {
+        let found = answered(hub, ask)?;
+        assert!(rt; found == *expected, "{ask:?}: {found:?}");
+    }
+    Ok(())
+}
+
 #[test]
 fn what_was_refused_is_refused_after_the_enrolment_too(rt: HostRuntime) -> Result<(), Fail> {
     let mut hub = new_hub(&rt, rt.alloc())?;
-    let at = moment()?;
-    let refused = hub.deposit(ORDER, &at)?;
-    assert!(rt; is_refused_with(&refused, REFUSAL));
-    hub.enrol(BETA, 2)?;
-    let again = hub.deposit(ORDER, &at)?;
-    assert!(rt; is_refused_with(&again, REFUSAL));
-    let next = hub.deposit(SECOND, &at)?;
-    assert_eq!(rt; boxed(&next), Some((2, 2)));
-    assert!(rt; holds(&mut hub, 2, 2, SECOND)?);
-    Ok(())
+    let asks = [
+        (Ask::Refuse(ORDER, REFUSAL), Answer::Yes),
+        (Ask::Enrol(BETA, 2), Answer::Yes),
+        (Ask::Refuse(ORDER, REFUSAL), Answer::Yes),
+        (Ask::Deposit(SECOND), Answer::Boxed(2, 2)),
+        (Ask::Hold(2, 2, SECOND), Answer::Yes),
+    ];
+    follow(&rt, &mut hub, &asks)
 }
 
 #[test]
 fn an_item_waits_until_its_own_node_takes_it(rt: HostRuntime) -> Result<(), Fail> {
     let mut hub = hub_of(&rt, rt.alloc(), &[(ALPHA, 1), (BETA, 2)])?;
-    let at = moment()?;
-    assert_eq!(rt; boxed(&hub.deposit(ORDER, &at)?), Some((2, 1)));
-    assert!(rt; !hub.taken(1, 1)? && !hub.taken(2, 9)?);
-    assert!(rt; holds(&mut hub, 2, 1, ORDER)? && holds(&mut hub, 2, 1, ORDER)?);
-    Ok(())
+    let asks = [
+        (Ask::Deposit(ORDER), Answer::Boxed(2, 1)),
+        (Ask::Taken(1, 1), Answer::No),
+        (Ask::Taken(2, 9), Answer::No),
+        (Ask::Hold(2, 1, ORDER), Answer::Yes),
+        (Ask::Hold(2, 1, ORDER), Answer::Yes),
+    ];
+    follow(&rt, &mut hub, &asks)
 }
 
 #[test]
 fn a_repeated_deposit_puts_a_taken_item_back(rt: HostRuntime) -> Result<(), Fail> {
     let mut hub = hub_of(&rt, rt.alloc(), &[(ALPHA, 1), (BETA, 2)])?;
-    let at = moment()?;
-    assert_eq!(rt; boxed(&hub.deposit(ORDER, &at)?), Some((2, 1)));
-    assert!(rt; hub.taken(2, 1)? && !hub.taken(2, 1)?);
-    assert_eq!(rt; hub.mailbox(2)?.len(), 0);
-    assert_eq!(rt; boxed(&hub.deposit(ORDER, &at)?), Some((2, 1)));
-    assert_eq!(rt; hub.mailbox(2)?.as_slice(), [1].as_slice());
-    Ok(())
+    let asks = [
+        (Ask::Deposit(ORDER), Answer::Boxed(2, 1)),
+        (Ask::Taken(2, 1), Answer::Yes),
+        (Ask::Taken(2, 1), Answer::No),
+        (Ask::Wait(2, &[]), Answer::Yes),
+        (Ask::Deposit(ORDER), Answer::Boxed(2, 1)),
+        (Ask::Wait(2, &[1]), Answer::Yes),
+    ];
+    follow(&rt, &mut hub, &asks)
 }
 
 #[test]
 fn a_mailbox_is_collected_by_rising_item_number(rt: HostRuntime) -> Result<(), Fail> {
     let mut hub = hub_of(&rt, rt.alloc(), &[(BETA, 2)])?;
-    let at = moment()?;
-    assert_eq!(rt; boxed(&hub.deposit(ORDER, &at)?), Some((2, 1)));
-    assert_eq!(rt; boxed(&hub.deposit(SECOND, &at)?), Some((2, 2)));
-    assert!(rt; hub.taken(2, 1)?);
-    assert_eq!(rt; boxed(&hub.deposit(ORDER, &at)?), Some((2, 1)));
-    assert_eq!(rt; hub.mailbox(2)?.as_slice(), [1, 2].as_slice());
+    let asks = [
+        (Ask::Deposit(ORDER), Answer::Boxed(2, 1)),
+        (Ask::Deposit(SECOND), Answer::Boxed(2, 2)),
+        (Ask::Taken(2, 1), Answer::Yes),
+        (Ask::Deposit(ORDER), Answer::Boxed(2, 1)),
+        (Ask::Wait(2, &[1, 2]), Answer::Yes),
+    ];
+    follow(&rt, &mut hub, &asks)?;
     assert_eq!(rt; hub.collect(2)?.len(), 2);
     Ok(())
 }
@@ -126,26 +204,32 @@ fn a_mailbox_is_collected_by_rising_item_number(rt: HostRuntime) -> Result<(), F
 #[test]
 fn a_party_is_dismissed_once(rt: HostRuntime) -> Result<(), Fail> {
     let mut hub = hub_of(&rt, rt.alloc(), &[(BETA, 2), (BETA, 3)])?;
-    let at = moment()?;
-    assert_eq!(rt; boxed(&hub.deposit(ORDER, &at)?), Some((3, 1)));
-    assert!(rt; hub.dismiss(&BETA)? && !hub.dismiss(&BETA)? && !hub.dismiss(&ALPHA)?);
-    assert_eq!(rt; boxed(&hub.deposit(SECOND, &at)?), None);
-    assert_eq!(rt; boxed(&hub.deposit(ORDER, &at)?), Some((3, 1)));
-    Ok(())
+    let asks = [
+        (Ask::Deposit(ORDER), Answer::Boxed(3, 1)),
+        (Ask::Dismiss(BETA), Answer::Yes),
+        (Ask::Dismiss(BETA), Answer::No),
+        (Ask::Dismiss(ALPHA), Answer::No),
+        (Ask::Deposit(SECOND), Answer::No),
+        (Ask::Deposit(ORDER), Answer::Boxed(3, 1)),
+    ];
+    follow(&rt, &mut hub, &asks)
+}
+
+/// Whether bytes can't be deposited, since they are too short for a header.
+fn is_too_short<H: HubRecords>(hub: &mut Hub<H>, bytes: &[u8]) -> Result<bool, Fail> {
+    match hub.deposit(bytes, &moment()?) {
+        Err(fault) => {
+            Ok(fault == HubFault::Unreadable(HeaderFault::TooShort) && fault.number() == "B1")
+        }
+        Ok(_) => Ok(false),
+    }
 }
 
 #[test]
 fn what_cannot_be_read_is_no_deposit(rt: HostRuntime) -> Result<(), Fail> {
     let mut hub = new_hub(&rt, rt.alloc())?;
-    let at = moment()?;
     assert!(rt; hub.is_new());
-    match hub.deposit(b"ISA*", &at) {
-        Err(fault) => {
-            assert_eq!(rt; fault, HubFault::Unreadable(HeaderFault::TooShort));
-            assert_eq!(rt; fault.number(), "B1");
-        }
-        Ok(_) => return Err(Fail::new("decided")),
-    }
+    assert!(rt; is_too_short(&mut hub, b"ISA*")?);
     assert!(rt; hub.is_new());
     assert_eq!(rt; (hub.party(), hub.failures()), (HUB, 0));
     Ok(())

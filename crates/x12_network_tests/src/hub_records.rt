@@ -155,16 +155,21 @@ fn a_refused_call_is_made_again(rt: HostRuntime) -> Result<(), Fail> {
     Ok(())
 }
 
+/// Whether bytes wait for BETA, and wait as they did when they come again.
+fn waits_twice<H: HubRecords>(hub: &mut Hub<H>) -> Result<bool, Fail> {
+    let at = moment()?;
+    let first = hub.deposit(ORDER, &at)?;
+    let again = hub.deposit(ORDER, &at)?;
+    Ok(boxed(&first) == Some((2, 1)) && boxed(&again) == Some((2, 1)))
+}
+
 /// Bytes that come again while their item waits: the records are asked for the decision, and no commit is made, which
 /// would fail.
 #[test]
 fn a_repeat_of_what_waits_writes_nothing(rt: HostRuntime) -> Result<(), Fail> {
-    let at = moment()?;
     let mut hub = failing(&rt, rt.alloc(), 5)?;
     hub.enrol(BETA, 2)?;
-    let first = hub.deposit(ORDER, &at)?;
-    let again = hub.deposit(ORDER, &at)?;
-    assert!(rt; boxed(&first) == Some((2, 1)) && boxed(&again) == Some((2, 1)));
+    assert!(rt; waits_twice(&mut hub)?);
     assert_eq!(rt; hub.failures(), 0);
     assert_eq!(rt; collect(&mut hub, 2)?, 1);
     assert_eq!(rt; hub.failures(), 1);
