@@ -130,11 +130,16 @@ fn waits<H: HubRecords>(hub: &mut Hub<H>, at: &Moment) -> Result<bool, Fail> {
     Ok(!others && waiting == 1 && own && back && dismissed && collect(hub, 2)? == 1)
 }
 
+/// Whether a restart fails, since the records do.
+fn fails_to_restart<H: HubRecords>(hub: &mut Hub<H>) -> bool {
+    hub.restart() == Err(HubFault::Store)
+}
+
 /// A restart reads the records again, so it fails where they do.
 #[test]
 fn a_restart_reads_the_records(rt: HostRuntime) -> Result<(), Fail> {
     let mut hub = failing(&rt, rt.alloc(), 1)?;
-    assert_eq!(rt; hub.restart(), Err(HubFault::Store));
+    assert!(rt; fails_to_restart(&mut hub));
     assert_eq!(rt; hub.failures(), 1);
     hub.restart()?;
     Ok(())

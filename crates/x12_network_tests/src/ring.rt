@@ -102,15 +102,20 @@ fn says_nothing(rt: &impl Abort, world: &mut Net) -> Result<(), Fail> {
     Ok(())
 }
 
+/// Whether each packet that goes round carries the order.
+fn carries_the_order(world: &Net) -> bool {
+    let sent = [5, 7, 10, 13, 16, 20, 24];
+    sent.iter().all(|event| carries(world, *event, 1, ORDER))
+}
+
+/// The order goes round, and goes on so once BETA is enrolled.
 fn goes_round(rt: &impl Abort, alloc: Global, world: &mut Net) -> Result<(), Fail> {
     let at = half_past_nine()?;
     plays(rt, alloc, world, at, 1, &ROUND)?;
     says_nothing(rt, world)?;
     plays(rt, alloc, world, at, 18, &ENROLLED)?;
     says_nothing(rt, world)?;
-    for event in [5, 7, 10, 13, 16, 20, 24] {
-        assert!(rt; carries(world, event, 1, ORDER), "event {event}");
-    }
+    assert!(rt; carries_the_order(world));
     Ok(())
 }
 

@@ -10,7 +10,7 @@ use std::alloc::Global;
 use std::process::Abort;
 use x12_envelopes::Party;
 use x12_outbound::{Counts, Fate};
-use x12_station::{ArrivalKind, Records, Station, StationFault};
+use x12_station::{Arrival, ArrivalKind, Records, Station, StationFault};
 
 /// Who answers under which number, with what between ISA and the number in IEA; what it counts; and
 /// how the set fares then.
@@ -69,6 +69,11 @@ const REFUSES: &[u8] = b"TA1*000000001*250102*0930*R*024~IEA*0*";
 /// The same in an interchange that is refused: there is no group.
 const REFUSED: &[u8] = b"TA1*000000001*250102*0930*R*024~IEA*1*";
 
+/// Whether an answer is new, gets no reply, and is counted so.
+fn is_new(arrival: &Arrival, counts: &Counts) -> bool {
+    arrival.kind == ArrivalKind::New && arrival.reply.is_none() && arrival.counts == *counts
+}
+
 /// Stops the test unless each answer is new, gets no reply, and means what it is to mean.
 fn check<R: Records>(
     rt: &impl Abort,
@@ -79,11 +84,7 @@ fn check<R: Records>(
     for (from, icn, body, counts, fares) in steps {
         let bytes = not_asking(alloc, from, &ALPHA, *icn, body)?;
         let arrival = arrive(alpha, &bytes, &at(rt))?;
-        assert!(rt;
-            arrival.kind == ArrivalKind::New && arrival.reply.is_none(),
-            "{icn}"
-        );
-        assert!(rt; arrival.counts == *counts, "{icn}");
+        assert!(rt; is_new(&arrival, counts), "{icn}");
         assert!(rt; fate(alpha, &FIRST)? == Some(*fares), "{icn}");
     }
     Ok(())
@@ -151,6 +152,18 @@ pub(crate) fn believes_its_hub<R: Records>(
     Ok(())
 }
 
+/// What comes before a station of two hubs restarts.
+const BEFORE_RESTART: [Step; 2] = [
+    (GAMMA, 5, REFUSES, UNMATCHED, Fate::Pending),
+    (OTHER, 1, ACCEPTS, UNMATCHED, Fate::Pending),
+];
+
+/// What comes behind that.
+const BEHIND_RESTART: [Step; 2] = [
+    (OTHER, 2, REFUSES, SETTLED, Fate::Rejected),
+    (HUB, 1, REFUSES, REPEATED, Fate::Rejected),
+];
+
 /// Where its hub is connected to another one, the TA1s of both settle, over a restart too, and no
 /// 997 of theirs.
 pub(crate) fn believes_both_hubs<R: Records>(
@@ -159,17 +172,9 @@ pub(crate) fn believes_both_hubs<R: Records>(
     alpha: &mut Station<R>,
 ) -> Result<(), StationFault> {
     submit(alpha, &asking(alloc, &ALPHA, &BETA, 1, ORDER)?)?;
-    let before: [Step; 2] = [
-        (GAMMA, 5, REFUSES, UNMATCHED, Fate::Pending),
-        (OTHER, 1, ACCEPTS, UNMATCHED, Fate::Pending),
-    ];
-    check(rt, alloc, alpha, &before)?;
+    check(rt, alloc, alpha, &BEFORE_RESTART)?;
     restart(alpha)?;
-    let after: [Step; 2] = [
-        (OTHER, 2, REFUSES, SETTLED, Fate::Rejected),
-        (HUB, 1, REFUSES, REPEATED, Fate::Rejected),
-    ];
-    check(rt, alloc, alpha, &after)
+    check(rt, alloc, alpha, &BEHIND_RESTART)
 }
 
 /// What was settled keeps its fate and its bytes over a restart, and is sent no more.

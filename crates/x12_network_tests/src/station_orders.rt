@@ -77,6 +77,13 @@ fn check_refused<R: Records>(
     assert!(rt; fault.number() == number, "{number}");
 }
 
+/// An order that can be written, and one of these segments behind it.
+fn behind_first(alloc: Global, segments: Segments) -> Result<Vec<Body>, AllocError> {
+    let mut orders = bodies(alloc, 1, FIRST_ORDER)?;
+    orders.push(body(alloc, segments)?)?;
+    Ok(orders)
+}
+
 /// Stops the test unless the orders that can't be written are refused, each behind one that can be.
 fn check_unwritable<R: Records>(
     rt: &impl Abort,
@@ -84,8 +91,7 @@ fn check_unwritable<R: Records>(
     station: &mut Station<R>,
 ) -> Result<(), StationFault> {
     for (name, segments) in UNWRITABLE {
-        let mut orders = bodies(alloc, 1, FIRST_ORDER)?;
-        orders.push(body(alloc, segments)?)?;
+        let orders = behind_first(alloc, segments)?;
         let fault = order(station, BETA, &at(rt), &orders).expect_err(rt, name);
         assert!(rt; fault.number() == "S3", "{name}");
     }
