@@ -22,9 +22,9 @@ HERE = os.path.dirname(os.path.realpath(__file__))
 TOP = os.path.dirname(HERE)
 sys.path[:0] = [HERE, f"{HERE}/tools"]
 import unproved
+from bodies import functions_in
 from crates import KIT, PARTS, crates_of, processors
 from gate import ignored
-from wrong_bodies import functions_in
 
 PROGRAMS = ("van", "vanlab")
 OF_TEXTS = ["sizes.py", "unused_imports.py", "words.py", "documents.py"]

@@ -56,6 +56,55 @@ pub fn add_four(n: u8) -> u8
 {
     add_three(n) + 1
 }
+
+/// A count.
+#[derive(Clone, Copy)]
+pub struct Count {
+    /// The number.
+    pub number: u8,
+}
+
+/// What has a next one.
+pub trait Follows {
+    /// The number of the next one.
+    fn following(&self) -> u8;
+}
+
+impl Follows for Count {
+    fn following(&self) -> u8
+        requires { self.now.number < 9 }
+        ensures { result ≡ self.now.number + 1 }
+    {
+        add_one(self.number)
+    }
+}
+
+impl Count {
+    /// The next one.
+    pub fn next(&self) -> u8
+        requires { self.now.number < 9 }
+        ensures { result ≡ self.now.number + 1 }
+    {
+        add_one(self.number)
+    }
+}
+
+/// The first of two.
+pub fn first<T: Copy>(one: T, other: T) -> T
+    ensures { result ≡ one }
+{
+    let _ = other;
+    one
+}
+
+/// The number behind this one.
+pub fn behind(n: u8) -> u8
+    requires { n < 5 }
+    ensures { result ≡ n + 1 }
+{
+    let count = Count { number: first(n, 0) };
+    count.next()
+}
 """
 
 # each edit: its old and its new text, and how what is said of it has to begin
@@ -64,6 +113,7 @@ EDITS = {
     "harmless_above_a_refused_callee": ("add_one(add_one(n))", "add_one(n) + 1", "NOT REFUSED"),
     "harmless": ("    n + 3", "    3 + n", "NOT REFUSED"),
     "adds_one_too_few": ("add_three(n) + 1", "add_three(n)", "refused, "),
+    "harmless_above_what_has_no_body": ("first(n, 0)", "first(n, 1)", "NOT REFUSED"),
     "has_another_one": ("ONE: u8 = 1", "ONE: u8 = 2", "refused, "),
     "harmless_in_a_constant": ("u8 = 1;", "u8 = 0 + 1;", "NOT REFUSED"),
     "wants_too_little": ("n < 9", "n < 256", "refused alone, in the crate"),

@@ -19,66 +19,31 @@ What changes more than bodies goes alone, in a check of the whole crate, where a
 a derive, a clause, a definition, a proof; and a function of a cycle of calls, whose functions see one another's
 routines.
 
-The first group of a crate is checked from nothing, over the statements of the libraries below as `rt ci` left them;
-where they are missing or old, `rt lib` makes them. Each later check begins with a copy of what the first one kept of
-what is proved, and a later group leaves in its text the first one's wrong bodies of other functions, since their
-proofs needn't be searched again. No refusal is taken from what was kept, and nothing is told as not refused before it
-was tried alone from nothing.
+For the same reason no other body is wanted: in a group's check each other function of the crate has `unreachable!()` in
+place of its body, and an open proof, so that nothing is searched there (tools/bodies.py). All is checked from nothing,
+over the statements of the libraries below as `rt ci` left them; where they are missing or old, `rt lib` makes them.
+What isn't refused alone in such a crate either is tried once more in the crate as it is, before it is told.
 
 A group's check is told with its processor seconds as it ends, and then each verdict. The last line is 'N passed, M
 failed'; each file in must-fail/ is counted once, whatever became of it, but for .md files. This tries what it is asked
 to; verdicts.py knows what was tried before. The test of both is verdicts_selftest.py.
 """
-import collections
-import contextlib
 import os
 import re
-import shutil
 import sys
-import tempfile
 from concurrent.futures import ThreadPoolExecutor, as_completed
 
 sys.dont_write_bytecode = True
 HERE = os.path.dirname(os.path.realpath(__file__))
 sys.path.insert(0, f"{HERE}/tools")
+from bodies import functions_in, hollow
 from crates import Unproved, crates_of, processors, text_of
 
-HEAD = re.compile(r"( *)(?:pub(?:\([^)]*\))? )?(?:const |final |unsafe )*fn (\w+)")
-BLOCK = re.compile(r"impl\b(?:<.*?>)? (?:(?P<of>[\w:]+)(?:<.*>)? for )?(?P<type>\w+)")
 CONSTANT = re.compile(r"^(?:pub(?:\([^)]*\))? )?(?:const|static) (\w+): .*?;$", re.M | re.S)
 GOAL = re.compile(r"note: (?:what antt said .*?: )?(src/\S+?):(\d+):\d+: (?:error: `(\S+?)`|.*\(`(\S+?)`\))")
 ERROR = re.compile(r"(?:\./)?((?:src|specs|proofs)/\S+?):\d+:\d+: error")
 TAKEN_AWAY = re.compile(r"has no field|is not in scope|has no `|was not admitted")
 UNREADABLE = re.compile(r"is not in scope|has no field|is no name|operand is missing|expected the end|cannot continue")
-
-# A function: its lines in a file, counted from 1, from its attributes on; where its body opens; its name for --only
-Function = collections.namedtuple("Function", "file first opens last name")
-
-
-def functions_in(file, text):
-    """The functions of a file as `rt fmt` lays it out: a head, and the next line that closes at its depth."""
-    found, block, is_in_cycle, lines = [], "", False, text.split("\n")
-    module = re.sub(r"^src/|(/mod)?\.rt$", "", file).replace("/", "::")
-    for at, line in enumerate(lines):
-        if BLOCK.match(line):
-            block = "".join(BLOCK.match(line).group("type", "of")[: 1 + (BLOCK.match(line)["of"] is not None)])
-        elif line == "}":
-            block = ""
-        is_in_cycle = is_in_cycle and not line.endswith("}") or "#[cycle(" in line
-        head = HEAD.match(line)
-        if not head or line.endswith((";", "}")) or is_in_cycle:
-            continue
-        first = at
-        while first and lines[first - 1].strip() and not re.search(r"^ *//|[{};]$", lines[first - 1]):
-            first -= 1
-        ends = [head[1] + "{", head[1] + ") {"]
-        last = next((i for i in range(at, len(lines)) if lines[i] == head[1] + "}"), at)
-        opens = at if line.endswith("{") else next(
-            (i for i in range(at, last) if lines[i] in ends or re.match(head[1] + r"\).* \{$", lines[i])), last)
-        path = [block.rpartition("::")[2]] if block else [] if module in ("lib", "main") else [module]
-        found.append(Function(file, first + 1, opens + 1, last + 1, "::".join([*path, head[2]])))
-    return found
-
 
 def readers_of(crate, name):
     """The functions whose bodies read a constant, or none where anything else does."""
@@ -153,37 +118,16 @@ def groups_of(edits):
     return groups
 
 
-def shared(source, target):
-    """Copies a file of what a check kept: a module that was checked, which no check writes again, as a link."""
-    (os.link if source.endswith(".oantt") else shutil.copy2)(source, target)
-
-
-class Kept:
-    """What a crate's first check kept of what is proved, and the edits that stood in its text; no edits, no work."""
-
-    def __init__(self, folder):
-        self.folder, self.edits = folder, []
-
-    def beside(self, group):
-        """Those of its edits that change no function of this group's, where they can stand in one text with it."""
-        functions = {function for it in group for function in it.functions}
-        found = [it for it in self.edits if functions.isdisjoint(it.functions)]
-        return found if edited([*found, *group]) else []
-
-    @contextlib.contextmanager
-    def copy(self):
-        """A folder for one more check, which begins with what the first one kept; none, where that is nothing."""
-        with tempfile.TemporaryDirectory(prefix="kept-") as room:
-            yield shutil.copytree(self.folder, f"{room}/kept", copy_function=shared) if self.edits else None
-
-
-def check(edits, texts, folder=None):
-    """Checks a copy with these texts, over what a folder keeps: the functions that the edits change, or else the whole
-    crate."""
-    crate, only = edits[0].crate, [it.name for edit in edits for it in edit.functions]
-    status, said, seconds = crate.timed_check(texts, only, kept=folder)
+def check(edits, is_whole=False):
+    """Checks a copy that holds these edits: the functions that they change, where that is all, in a crate in which no other
+    has a body; or the whole crate as it is."""
+    crate, functions = edits[0].crate, {it for edit in edits for it in edit.functions}
+    texts, only = edited(edits), sorted({it.name for it in functions})
+    if functions and not is_whole:
+        texts = hollow(crate, texts, functions)
+    status, said, seconds = crate.timed_check(texts, only)
     if status == 2 and only:  # a name that fits no function alone
-        status, said, seconds = crate.timed_check(texts, kept=folder)
+        status, said, seconds = crate.timed_check(texts)
     print(f"{crate.name}: a check of {len(edits)}, {seconds:.0f} s", flush=True)
     return status, said
 
@@ -210,36 +154,24 @@ def refusal(edit, said):
     return ""
 
 
-def tell_refused(group, said):
-    """Tells those of a group that a check refuses at a function of theirs."""
-    for edit in group:
-        found = refusal(edit, said)
-        if found:
-            edit.tell(f"refused, {found}")
-
-
-def try_first(group, kept):
-    """Checks a copy that holds a group, and keeps what is proved, where the text could be read."""
-    _, said = check(group, edited(group), kept.folder)
-    tell_refused(group, said)
-    if re.search("^fn ", said, re.M):
-        kept.edits = group
-
-
-def try_group(group, kept):
-    """Checks a copy that holds a group, and those beside it whose proofs needn't be searched again."""
+def try_group(group):
+    """Checks a copy that holds a group, and tells those that are refused at a function of theirs."""
     if group[0].functions:
-        with kept.copy() as folder:
-            _, said = check(group, edited([*kept.beside(group), *group]), folder)
-        tell_refused(group, said)
+        _, said = check(group)
+        if not re.search("^fn ", said, re.M):  # it couldn't be read so
+            _, said = check(group, is_whole=True)
+        for edit in group:
+            found = refusal(edit, said)
+            if found:
+                edit.tell(f"refused, {found}")
 
 
-def verdict_alone(edit, folder=None):
-    """What becomes of an edit in a check of a copy that holds it alone, over what a folder keeps."""
+def verdict_alone(edit, is_whole):
+    """What becomes of an edit in a check of a copy that holds it alone."""
     texts = edited([edit])
     if not texts:
         return "BAD EDIT: it can't be applied: each old text stands once in its file"
-    status, said = check([edit], texts, folder)
+    status, said = check([edit], is_whole)
     lines = said.rstrip().split("\n")
     errors = [it for it in lines if ERROR.match(it)]
     placed = [it for it in errors if ERROR.match(it)[1] in texts]
@@ -255,11 +187,10 @@ def verdict_alone(edit, folder=None):
     return f"NOT REFUSED: {lines[-1][:150]}"
 
 
-def try_alone(edit, kept=None):
-    """Tries an edit alone, over what was kept, and from nothing before it is told as not refused."""
-    with kept.copy() if kept else contextlib.nullcontext() as folder:
-        verdict = verdict_alone(edit, folder)
-    edit.tell(verdict_alone(edit) if folder and verdict.startswith("NOT REFUSED") else verdict)
+def try_alone(edit):
+    """Tells an edit by a check that holds it alone, and by one of the crate as it is before it is told as not refused."""
+    verdict = verdict_alone(edit, is_whole=False)
+    edit.tell(verdict if verdict.startswith("refused") or not edit.functions else verdict_alone(edit, is_whole=True))
 
 
 def files_of(crate):
@@ -270,24 +201,15 @@ def files_of(crate):
     return edits, [it for it in files if it not in edits and not it.endswith(".md")]
 
 
-def try_edits(edits, kept, lanes):
-    """Tries the edits of a crate: the largest group first, then the others side by side, and what is left alone."""
-    groups = sorted(groups_of(edits), key=len, reverse=True)
-    if groups and groups[0][0].functions:
-        first = groups.pop(0)
-        lanes.submit(try_first if groups else try_group, first, kept).result()
-    list(lanes.map(lambda it: try_group(it, kept), groups))
-    list(lanes.map(lambda it: try_alone(it, kept), [it for it in edits if not it.verdict]))
-
-
 def try_crate(crate, lanes):
-    """Tries the edits of a crate, once the libraries below it stand; returns each file's label with its verdict."""
+    """Tries the edits of a crate, once the libraries below it stand: the largest group first, and what is left alone.
+    Returns each file's label with its verdict."""
     names, others = files_of(crate)
     edits = [Edit(crate, it) for it in names]
     try:
         crate.build_below()
-        with tempfile.TemporaryDirectory(prefix="kept-") as folder:
-            try_edits(edits, Kept(folder), lanes)
+        list(lanes.map(try_group, sorted(groups_of(edits), key=len, reverse=True)))
+        list(lanes.map(try_alone, [it for it in edits if not it.verdict]))
     except Unproved as library:
         for edit in edits:
             edit.tell(f"NOT TRIED: {library} isn't proved")

@@ -105,10 +105,10 @@ class Crate:
         they are named. Returns the exit status and what was said."""
         return self.timed_check(texts, only)[:2]
 
-    def timed_check(self, texts, only=(), tests=False, kept=None):
-        """The same, and the processor seconds that it took; with its tests, where they are wanted; over what earlier
-        checks of the crate kept in a folder, where one is given."""
-        words = self.command("check") + ["--test"] * tests + (["--incremental", kept] if kept else [])
+    def timed_check(self, texts, only=(), tests=False):
+        """The same, and the processor seconds that it took; with its tests, where they are wanted. A file that has no
+        text is left out."""
+        words = self.command("check") + ["--test"] * tests
         for name in only:
             words += ["--only", name]
         with tempfile.TemporaryDirectory(prefix="edited-") as room, tempfile.TemporaryFile() as said:
@@ -116,8 +116,12 @@ class Crate:
                 if os.path.isdir(f"{self.folder}/{part}"):
                     shutil.copytree(f"{self.folder}/{part}", f"{room}/{part}")
             for path, text in texts.items():
-                with open(f"{room}/{path}", "w", encoding="utf-8") as file:
-                    file.write(text)
+                os.makedirs(os.path.dirname(f"{room}/{path}"), exist_ok=True)
+                if text is not None:
+                    with open(f"{room}/{path}", "w", encoding="utf-8") as file:
+                        file.write(text)
+                elif os.path.exists(f"{room}/{path}"):
+                    os.remove(f"{room}/{path}")
             with started(words, cwd=room, stdin=subprocess.DEVNULL, stdout=said, stderr=said) as running:
                 _, status, spent = os.wait4(running.pid, 0)
                 running.returncode = os.waitstatus_to_exitcode(status)

@@ -20,7 +20,7 @@ COMMENT = {".rt": re.compile(r" *//"), ".antt": re.compile(r" *--"), ".py": re.c
 # What is written of one function's proof: no proof above reads it.
 OWN_PROOF = re.compile(r"proofs/.*/(Answers|Invariants|Proof)\.antt")
 HERE = os.path.dirname(os.path.realpath(__file__))
-JUDGES = (f"{HERE}/crates.py", f"{HERE}/stated.py", f"{os.path.dirname(HERE)}/wrong_bodies.py")
+JUDGES = (f"{HERE}/bodies.py", f"{HERE}/crates.py", f"{HERE}/stated.py", f"{os.path.dirname(HERE)}/wrong_bodies.py")
 
 
 def files_of(folder):
