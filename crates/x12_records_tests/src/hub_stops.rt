@@ -6,15 +6,15 @@ ghost use Rattle.std.specs.Prelude.{IsTrue};
 
 use crate::disk::{NEVER, STEPS, Stop, Stops, empty, killed, large, lost, opened, small};
 use crate::fixture::{ALPHA, BETA, FIRST, HUB, SECOND};
-use crate::hub::{are_items, boxes, holds, is_boxed, made};
-use sqlite::{FileStore, Files};
+use crate::hub::{are_items, boxes, holds, is_boxed};
+use sqlite::{Files, Options};
 use sqlite_disk::Disk;
 use std::alloc::Global;
 use std::process::Abort;
 use std::test::Fail;
 use x12_envelopes::Moment;
 use x12_hub::{Hub, HubFault, HubRecords};
-use x12_records::{SqliteHubRecords, open_hub_over};
+use x12_records::{OpenFault, SqliteHubRecords, open_hub_over};
 use x12_samples::moment;
 
 /// How many moments a call has at which both files may stop, at most.
@@ -31,20 +31,17 @@ enum Asked {
     Taking,
 }
 
-/// The files of a hub that ends, as it leaves them.
-fn left<D: Disk + Drop>(hub: Hub<SqliteHubRecords<FileStore<D>>>) -> Files<D> {
-    hub.close().into_connection().into_store().close()
-}
-
-/// The files of a hub that took the first order, for BETA at node 2, and then enrolled ALPHA.
-fn one_item<D: Disk + Drop>(alloc: Global, files: Files<D>) -> Result<Files<D>, Fail> {
-    let at = moment()?;
-    let conn = opened(alloc, files).ok_or("not opened")?;
-    let mut hub = made(alloc, conn).ok_or("not made")?;
-    hub.enrol(BETA, 2)?;
-    hub.deposit(FIRST, &at)?;
-    hub.enrol(ALPHA, 1)?;
-    Ok(left(hub))
+/// What a hub is told while it is open.
+#[derive(Clone, Copy)]
+enum Tale {
+    /// Nothing.
+    Nothing,
+    /// To take the first order, for BETA at node 2, and then to enrol ALPHA.
+    Begin,
+    /// What it is asked as its files stop.
+    Ask(Asked),
+    /// That, behind the stop: whether it stands, and is done again.
+    Again(Asked),
 }
 
 /// Whether the call answers as it should.
@@ -90,57 +87,122 @@ fn is_whole<H: HubRecords>(rt: &impl Abort, hub: &mut Hub<H>, asked: Asked) -> R
     Ok(stood)
 }
 
-/// The same of the hub that is opened over files.
-#[tactic(auto, unfolding(x12_envelopes::specs::Party::is_plain_party))]
-fn is_left_whole<D: Disk + Drop>(
-    rt: &impl Abort,
-    alloc: Global,
-    files: Files<D>,
-    asked: Asked,
-) -> Result<bool, Fail>
-    requires log { IsTrue (D.Disk.is_usable files.log) }
-    requires db { IsTrue (D.Disk.is_usable files.db) }
-{
-    let mut hub = open_hub_over(alloc, files, large(), HUB)?;
-    is_whole(rt, &mut hub, asked)
+/// The hub takes the first order, for BETA at node 2, and then enrols ALPHA.
+fn begin<H: HubRecords>(hub: &mut Hub<H>) -> Result<bool, Fail> {
+    hub.enrol(BETA, 2)?;
+    hub.deposit(FIRST, &moment()?)?;
+    hub.enrol(ALPHA, 1)?;
+    Ok(true)
 }
 
-/// Whether the call was answered where both files stop at this moment, and the files then.
-#[tactic(auto, unfolding(x12_envelopes::specs::Party::is_plain_party))]
-fn stopped<D: Stops + Drop>(
-    alloc: Global,
-    before: &Files<D>,
-    stop: Stop,
-    asked: Asked,
-) -> Result<(bool, Files<D>), Fail> {
-    let at = moment()?;
-    let files = killed(alloc, before, stop)?;
-    let mut hub = open_hub_over(alloc, files, small(), HUB)?;
-    match ask(&mut hub, asked, &at) {
-        Ok(true) => Ok((true, left(hub))),
+/// Whether the call is answered as it should be; nothing where the records fail it.
+fn answered<H: HubRecords>(hub: &mut Hub<H>, asked: Asked) -> Result<Option<bool>, Fail> {
+    match ask(hub, asked, &moment()?) {
+        Ok(true) => Ok(Some(true)),
         Ok(false) => Err(Fail::new("another answer")),
-        Err(HubFault::Store) => Ok((false, left(hub))),
+        Err(HubFault::Store) => Ok(None),
         Err(fault) => Err(fault.into()),
     }
 }
 
-/// Whether the hub is opened where both files stop at this moment.
+/// Tells a hub a tale: whether a call was answered, or stood; nothing where the records fail it.
+fn tell<H: HubRecords>(
+    rt: &impl Abort,
+    hub: &mut Hub<H>,
+    tale: Tale,
+) -> Result<Option<bool>, Fail> {
+    match tale {
+        Tale::Nothing => Ok(Some(true)),
+        Tale::Begin => Ok(Some(begin(hub)?)),
+        Tale::Ask(asked) => answered(hub, asked),
+        Tale::Again(asked) => Ok(Some(is_whole(rt, hub, asked)?)),
+    }
+}
+
+/// What the hub that is opened over files finds of a tale, and the files that it leaves.
 #[tactic(auto, unfolding(x12_envelopes::specs::Party::is_plain_party))]
+fn opened_for<D: Disk + Drop>(
+    rt: &impl Abort,
+    alloc: Global,
+    files: Files<D>,
+    options: Options,
+    tale: Tale,
+) -> Result<(Result<Option<bool>, Fail>, Files<D>), OpenFault>
+    requires log { IsTrue (D.Disk.is_usable files.log) }
+    requires db { IsTrue (D.Disk.is_usable files.db) }
+{
+    let mut hub = open_hub_over(alloc, files, options, HUB)?;
+    let found = tell(rt, &mut hub, tale);
+    let files = hub.close().into_connection().into_store().close();
+    Ok((found, files))
+}
+
+/// The same, where the hub has to be opened.
+fn told<D: Disk + Drop>(
+    rt: &impl Abort,
+    alloc: Global,
+    files: Files<D>,
+    options: Options,
+    tale: Tale,
+) -> Result<(Option<bool>, Files<D>), Fail>
+    requires log { IsTrue (D.Disk.is_usable files.log) }
+    requires db { IsTrue (D.Disk.is_usable files.db) }
+{
+    let (found, files) = opened_for(rt, alloc, files, options, tale)?;
+    Ok((found?, files))
+}
+
+/// Files with the tables of a hub, which hold nothing.
+#[tactic(auto, unfolding(x12_envelopes::specs::Party::is_plain_party))]
+fn created<D: Disk + Drop>(alloc: Global, files: Files<D>) -> Result<Files<D>, Fail> {
+    let conn = opened(alloc, files).ok_or("not opened")?;
+    match SqliteHubRecords::create(conn, HUB) {
+        Ok(records) => Ok(records.into_connection().into_store().close()),
+        Err(_) => Err(Fail::new("not made")),
+    }
+}
+
+/// The files of a hub that took the first order, for BETA at node 2, and then enrolled ALPHA.
+fn one_item<D: Stops + Drop>(
+    rt: &impl Abort,
+    alloc: Global,
+    files: Files<D>,
+) -> Result<Files<D>, Fail> {
+    let files = created(alloc, files)?;
+    let (_, files) = told(
+        rt,
+        alloc,
+        killed(alloc, &files, NEVER)?,
+        small(),
+        Tale::Begin,
+    )?;
+    Ok(files)
+}
+
+/// Whether the hub is opened where both files stop at this moment.
 fn is_hub_opened<D: Stops + Drop>(
+    rt: &impl Abort,
     alloc: Global,
     before: &Files<D>,
     stop: Stop,
 ) -> Result<bool, Fail> {
     let files = killed(alloc, before, stop)?;
-    Ok(open_hub_over(alloc, files, small(), HUB).is_ok())
+    match opened_for(rt, alloc, files, small(), Tale::Nothing) {
+        Ok((found, _)) => Ok(found?.is_some()),
+        Err(_) => Ok(false),
+    }
 }
 
 /// The first moment at which the hub is open: each file passes what the opening takes.
-fn first_stop<D: Stops + Drop>(alloc: Global, before: &Files<D>) -> Result<Stop, Fail> {
+fn first_stop<D: Stops + Drop>(
+    rt: &impl Abort,
+    alloc: Global,
+    before: &Files<D>,
+) -> Result<Stop, Fail> {
     let mut stop = Stop { log: 0, ..NEVER };
     for step in STEPS {
         let log = stop.log.saturating_add(step);
-        if !is_hub_opened(alloc, before, Stop { log, ..stop })? {
+        if !is_hub_opened(rt, alloc, before, Stop { log, ..stop })? {
             stop.log = log;
         }
     }
@@ -148,7 +210,7 @@ fn first_stop<D: Stops + Drop>(alloc: Global, before: &Files<D>) -> Result<Stop,
     stop.db = 0;
     for step in STEPS {
         let db = stop.db.saturating_add(step);
-        if !is_hub_opened(alloc, before, Stop { db, ..stop })? {
+        if !is_hub_opened(rt, alloc, before, Stop { db, ..stop })? {
             stop.db = db;
         }
     }
@@ -165,15 +227,17 @@ fn is_whole_wherever_it_stops<D: Stops + Drop>(
     before: &Files<D>,
     asked: Asked,
 ) -> Result<(), Fail> {
-    let first = first_stop(alloc, before)?;
+    let first = first_stop(rt, alloc, before)?;
     let mut stop = first;
     for _ in 0..MOST {
-        let (is_answered, mut files) = stopped(alloc, before, stop, asked)?;
-        let in_kill = is_left_whole(rt, alloc, killed(alloc, &files, NEVER)?, asked)?;
+        let stopped = killed(alloc, before, stop)?;
+        let (answer, mut files) = told(rt, alloc, stopped, small(), Tale::Ask(asked))?;
+        let left = killed(alloc, &files, NEVER)?;
+        let (in_kill, _) = told(rt, alloc, left, large(), Tale::Again(asked))?;
         let next = stop.next(&mut files);
-        let in_loss = is_left_whole(rt, alloc, lost(files), asked)?;
-        if is_answered {
-            assert!(rt; in_kill && in_loss);
+        let (in_loss, _) = told(rt, alloc, lost(files), large(), Tale::Again(asked))?;
+        if answer.is_some() {
+            assert!(rt; in_kill == Some(true) && in_loss == Some(true));
             assert!(rt; stop.db > first.db);
             assert!(rt; stop.log > first.log || asked == Asked::Collection);
             return Ok(());
@@ -185,13 +249,13 @@ fn is_whole_wherever_it_stops<D: Stops + Drop>(
 
 #[test]
 fn a_deposit_that_stops_is_kept_whole_or_not_at_all(rt: HostRuntime) -> Result<(), Fail> {
-    let files = one_item(rt.alloc(), empty(rt.alloc()))?;
+    let files = one_item(&rt, rt.alloc(), empty(rt.alloc()))?;
     is_whole_wherever_it_stops(&rt, rt.alloc(), &files, Asked::Deposit)
 }
 
 #[test]
 fn a_collection_that_stops_changes_nothing(rt: HostRuntime) -> Result<(), Fail> {
-    let files = one_item(rt.alloc(), empty(rt.alloc()))?;
+    let files = one_item(&rt, rt.alloc(), empty(rt.alloc()))?;
     is_whole_wherever_it_stops(&rt, rt.alloc(), &files, Asked::Collection)
 }
 
@@ -199,6 +263,6 @@ fn a_collection_that_stops_changes_nothing(rt: HostRuntime) -> Result<(), Fail> 
 fn the_taking_of_an_item_that_stops_is_kept_whole_or_not_at_all(
     rt: HostRuntime,
 ) -> Result<(), Fail> {
-    let files = one_item(rt.alloc(), empty(rt.alloc()))?;
+    let files = one_item(&rt, rt.alloc(), empty(rt.alloc()))?;
     is_whole_wherever_it_stops(&rt, rt.alloc(), &files, Asked::Taking)
 }
