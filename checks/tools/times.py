@@ -8,13 +8,16 @@ times.py tell FILE BUDGET           prints the times of FILE beside those of BUD
 A line of either file is a crate or a check, a kind (proof, tests, edits or check), and processor seconds. Of a check
 of a crate the toolchain's process `rattle` names the crate, so its time is read in /proc twice a second while it runs:
 what it spends in its last half second is told under the command's own name. Seconds of one machine are no measure of
-another's, and a loaded one takes up to half as much again: look at what grew against the rest.
+another's, and one machine has days on which all takes twice as long. So the last lines tell the pace: how many times its
+landed seconds the median proof of a crate took, and what the whole would have taken at the landed pace. Look at what
+grew against that.
 """
 import collections
 import contextlib
 import os
 import resource
 import signal
+import statistics
 import subprocess
 import sys
 import time
@@ -22,6 +25,7 @@ import time
 TICKS = os.sysconf("SC_CLK_TCK")
 KINDS = ("proof", "tests", "edits", "check")
 DEARER, SECONDS = 4 / 3, 10
+LEAST = 20  # seconds: what took less says little of the pace
 
 
 def rattle_times(session):
@@ -87,8 +91,18 @@ def row(name, seconds, landed, note=""):
     print(f"  {name:<24}" + "".join(f"{it:>8}" for it in cells) + (f"   {note}" if note else ""))
 
 
+def tell_pace(now, landed):
+    """Prints how many times its landed seconds the median proof took, and what all would have taken at that pace."""
+    ratios = [now[it] / landed[it] for it in now if it[1] == "proof" and landed[it] >= LEAST]
+    if ratios:
+        pace = statistics.median(ratios)
+        parts = ", ".join(f"{kind} {sum(now[it] for it in now if it[1] == kind) / pace / 60:.0f}" for kind in KINDS)
+        print(f"  the median of {len(ratios)} proofs took {pace:.2f} times its landed seconds; {sum(now.values()) / 60:.0f} processor")
+        print(f"  minutes in all, {sum(now.values()) / pace / 60:.0f} at the landed pace: {parts}")
+
+
 def tell(file, budget):
-    """Prints a table of one file, and marks what is more than a third dearer than in the other."""
+    """Prints a table of one file, marks what is more than a third dearer than in the other, and tells the pace."""
     now, landed = read(file), read(budget)
     print(f"  {'processor seconds':<24}" + "".join(f"{it:>8}" for it in (*KINDS, "all", "landed")))
     for name in sorted({it for it, _ in [*now, *landed]}):
@@ -96,6 +110,7 @@ def tell(file, budget):
         dearer = [kind for kind, is_now, was in zip(KINDS, spent, before) if is_now > max(DEARER * was, was + SECONDS)]
         row(name, spent, sum(before), f"DEARER: {', '.join(dearer)}" if dearer and landed else "")
     row("all", [sum(now[it] for it in now if it[1] == kind) for kind in KINDS], sum(landed.values()))
+    tell_pace(now, landed)
 
 
 if __name__ == "__main__":
