@@ -1,7 +1,8 @@
 #!/usr/bin/env python3
 """The test of wrong_bodies.py and of verdicts.py: what they say of a small crate and of one above it.
 
-A harmless edit has to be told, also one that stands in a caller of a function which is refused in the same check. A
+A harmless edit has to be told, also one that stands in a caller of a function which is refused in the same check, and
+one that stands in a copy of its function, behind another edit of it. A
 constant goes with the bodies that read it. What changes more than bodies is tried alone. A file that can't be applied,
 or is none of the form, is told by its name.
 
@@ -21,6 +22,7 @@ from crates import PARTS, crates_of
 
 CODE = """#![tactic(auto)]
 ghost use Rattle.std.specs.Prelude.{◌≡◌, ◌+◌, ◌<◌};
+ghost use Rattle.sample.specs.Three.{three};
 
 const ONE: u8 = 1;
 
@@ -85,7 +87,16 @@ impl Count {
         requires { self.now.number < 9 }
         ensures { result ≡ self.now.number + 1 }
     {
-        add_one(self.number)
+        let number = self.number;
+        add_one(number)
+    }
+
+    /// Three, as an answer of its own shows.
+    pub fn three() -> u8
+        ensures { result ≡ three }
+    {
+        let one = 1;
+        one + 2
     }
 }
 
@@ -115,10 +126,15 @@ EDITS = {
     "adds_one_too_few": ("add_three(n) + 1", "add_three(n)", "refused, "),
     "harmless_above_what_has_no_body": ("first(n, 0)", "first(n, 1)", "NOT REFUSED"),
     "has_another_one": ("ONE: u8 = 1", "ONE: u8 = 2", "refused, "),
-    "harmless_in_a_constant": ("u8 = 1;", "u8 = 0 + 1;", "NOT REFUSED"),
+    "is_harmless_in_a_constant": ("u8 = 1;", "u8 = 0 + 1;", "NOT REFUSED"),
     "wants_too_little": ("n < 9", "n < 256", "refused alone, in the crate"),
+    "gives_four": ("one + 2", "one + 3", "refused, "),
+    "harmless_in_a_copy": ("one + 2", "2 + one", "NOT REFUSED"),
+    "gives_two_in_a_copy": ("one + 2", "one + 1", "refused, "),
     "stands_nowhere": ("n + 5", "n", "BAD EDIT"),
-    "wants_an_operand": ("    n + 3", "    n +", "BAD EDIT"),
+    # These two stand in one function, which can't be copied: so the second, which can't be read, spoils no other verdict.
+    "follows_with_itself": ("add_one(self.number)", "self.number", "refused, "),
+    "wants_an_operand": ("add_one(self.number)", "add_one(self.number) +", "BAD EDIT"),
 }
 
 
@@ -134,6 +150,26 @@ pub fn nine() -> u8
 }
 """
 IS_NONE = "file: src/lib.rt\nold:     9\nnew:     0 + 9\n"
+
+# What the answer of one of its functions stands on.
+OF_THREE = {
+    "specs/Lib.antt": "pub mod Three\n",
+    "specs/Three.antt": "use Rattle.std.specs.Prelude.{ℕ}\n\n-- Three.\nunfoldable pub three : ℕ\nthree = 3\n",
+    "proofs/Lib.antt": "mod ThreeLemmas\n",
+    "proofs/ThreeLemmas.antt": """use Rattle.std.proofs.Common.{◌≡◌, refl}
+use Rattle.sample.specs.Three.{three}
+
+pub three_is : 3 ≡ three
+unfolding three
+three_is = refl
+""",
+    "proofs/Count/three/Answers.antt": """use Rattle.sample.proofs.ThreeLemmas.{three_is}
+use Rattle.sample.proofs.Count.three.Goals as goal
+
+pub returns : goal.returns
+returns c = three_is
+""",
+}
 
 DEFINITION = "-- Three.\npub unfoldable three : ℕ = 3\n"
 LEMMA = "pub three_is : three ≡ 3\nthree_is = refl\n"
@@ -169,6 +205,7 @@ def of_edits(top):
 
     sample = f"{top}/crates/sample"
     files = {f"{top}/crates.txt": "sample:\n", f"{sample}/src/lib.rt": CODE, f"{sample}/must-fail/notes.txt": ""}
+    files |= {f"{sample}/{path}": text for path, text in OF_THREE.items()}
     for name, (old, new, _) in EDITS.items():
         files[f"{sample}/must-fail/{name}.edit"] = f"file: src/lib.rt\nold: {old}\nnew: {new}\n"
     write(files)

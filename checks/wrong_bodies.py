@@ -8,7 +8,8 @@ them. `rt must-fail` and `rt ci` check a crate once for each. This puts those of
 
 Why that shows as much, and more. A function is proved against the contracts of what it calls, never against their
 bodies, and its routine is closed to every other proof. So a wrong body changes nothing for the proof of another
-function, and a check of a copy that holds many of them judges each alone. Of each it is wanted that the check refuses
+function, and a check of a copy that holds many of them judges each alone. Where a function has several wrong bodies, the
+second and each further one stands in a function of its own behind it, with the same contract, proof files and attributes. Of each it is wanted that the check refuses
 the very function that it stands in, for that function's own lines: a goal placed in them that wasn't proved, or an
 error in the function's own proof files. That a callee isn't proved is no reason, and neither is a proof file that names
 what the edit took away. (`rt ci` takes any refusal in the crate.) A constant that only bodies read goes with them: a
@@ -36,7 +37,7 @@ from concurrent.futures import ThreadPoolExecutor, as_completed
 sys.dont_write_bytecode = True
 HERE = os.path.dirname(os.path.realpath(__file__))
 sys.path.insert(0, f"{HERE}/tools")
-from bodies import functions_in, hollow
+from bodies import functions_in, hollow, homes_of, stands_apart
 from crates import Unproved, crates_of, processors, text_of
 
 CONSTANT = re.compile(r"^(?:pub(?:\([^)]*\))? )?(?:const|static) (\w+): .*?;$", re.M | re.S)
@@ -45,11 +46,17 @@ ERROR = re.compile(r"(?:\./)?((?:src|specs|proofs)/\S+?):\d+:\d+: error")
 TAKEN_AWAY = re.compile(r"has no field|is not in scope|has no `|was not admitted")
 UNREADABLE = re.compile(r"is not in scope|has no field|is no name|operand is missing|expected the end|cannot continue")
 
+
+def functions_of(crate, file, text):
+    """The functions of a file of a crate."""
+    return functions_in(file, text, homes_of(crate.sources()))
+
+
 def readers_of(crate, name):
     """The functions whose bodies read a constant, or none where anything else does."""
     found = set()
     for file, text in crate.sources().items():
-        functions = functions_in(file, text)
+        functions = functions_of(crate, file, text)
         for number, line in enumerate(text.split("\n"), 1):
             if re.search(rf"\b{name}\b", line) and not re.match(rf" *//|(pub )?use |.*\b(const|static) {name}:", line):
                 inside = [it for it in functions if it.opens < number < it.last]
@@ -72,6 +79,7 @@ class Edit:
                 old = line[5:]
             elif line.startswith("new:"):
                 self.pairs.append((path, old, line[5:]))
+        self.is_of_bodies = True
         changed = [self.changed(path, old) for path, old, _ in self.pairs]
         self.functions = sorted(set().union(*changed)) if all(changed) else []
 
@@ -82,9 +90,30 @@ class Edit:
             return set()
         at = text.index(old)
         line = text[:at].count("\n") + 1
-        inside = [it for it in functions_in(path, text) if it.opens < line < it.last]
+        inside = [it for it in functions_of(self.crate, path, text) if it.opens < line < it.last]
         constant = next((it for it in CONSTANT.finditer(text) if it.start() <= at < it.end()), None)
+        self.is_of_bodies = self.is_of_bodies and bool(inside)
         return {inside[-1]} if inside else readers_of(self.crate, constant[1]) if constant else set()
+
+    def may_be_copied(self):
+        """Whether it stands in one body, of a function that may stand in its file under another name as well."""
+        if not self.is_of_bodies or len(self.functions) != 1:
+            return False
+        its = self.functions[0]
+        text = self.crate.sources()[its.file]
+        return bool(its.place) and not its.is_of_trait and stands_apart(its, functions_of(self.crate, its.file, text))
+
+    def made(self, text):
+        """A text of its function, as it makes it."""
+        for _, old, new in self.pairs:
+            text = text.replace(old, new)
+        return text
+
+    def copy(self, name):
+        """The lines of its function, as it makes them, under another name."""
+        its = self.functions[0]
+        lines = self.crate.sources()[its.file].split("\n")[its.first - 1 : its.last]
+        return re.sub(r"\bfn \w+", f"fn {name}", self.made("\n".join(lines)), count=1).split("\n")
 
     def tell(self, verdict):
         self.verdict = verdict
@@ -96,44 +125,96 @@ def edited(edits):
     texts = {}
     for edit in edits:
         for path, old, new in edit.pairs:
-            if path not in texts and os.path.isfile(f"{edit.crate.folder}/{path}"):
-                texts[path] = text_of(f"{edit.crate.folder}/{path}")
-            if not old or texts.get(path, "").count(old) != 1:
+            text = text_of(f"{edit.crate.folder}/{path}") if os.path.isfile(f"{edit.crate.folder}/{path}") else ""
+            if not old or text.count(old) != 1:
                 return None
-            texts[path] = texts[path].replace(old, new)
+            # A text that stands once in the file may stand twice where another edit was applied: so it is looked for here.
+            at = text[: text.index(old)].count("\n")
+            lines = texts.get(path, text).split("\n")
+            lines[at] = lines[at].replace(old, new)
+            texts[path] = "\n".join(lines)
     return texts or None
 
 
+def may_join(edit, group):
+    """Whether an edit may be judged in the check of a group: it shares no function with any of it, or can be copied."""
+    for it in group:
+        is_shared = not set(it.functions).isdisjoint(edit.functions)
+        if not it.functions or is_shared and not (it.is_of_bodies and edit.may_be_copied()):
+            return False
+    return bool(edit.functions and edited([edit]))
+
+
 def groups_of(edits):
-    """Each edit in the first group that has none in its functions; those that change more than bodies alone."""
+    """Each edit in the first group that it may join; those that change more than bodies alone."""
     groups = []
-    for edit in edits:
-        for group in groups:
-            taken = {function for it in group for function in it.functions}
-            if edit.functions and taken and taken.isdisjoint(edit.functions) and edited([*group, edit]):
-                group.append(edit)
-                break
-        else:
+    for edit in sorted(edits, key=lambda it: it.may_be_copied()):
+        group = next((it for it in groups if may_join(edit, it)), None)
+        if group is None:
             groups.append([edit])
+        else:
+            group.append(edit)
     return groups
+
+
+def proof_of_copy(crate, place, name):
+    """What is written of a function's proof, for a copy of it under another name."""
+    folder, other = f"{crate.folder}/proofs/{place}", "/".join([*place.split("/")[:-1], name])
+    path, its = (f"Rattle.{crate.name}.proofs.{it.replace('/', '.')}." for it in (place, other))
+    files = sorted(it for it in os.listdir(folder) if it.endswith(".antt")) if os.path.isdir(folder) else []
+    return {f"proofs/{other}/{it}": text_of(f"{folder}/{it}").replace(path, its) for it in files}
+
+
+def with_copies(texts, copies):
+    """These texts, and behind its function each copy, which are edits with their names; from the last one of a file on."""
+    found = dict(texts)
+    for edit, name in sorted(copies.items(), key=lambda it: it[0].functions[0].last, reverse=True):
+        its = edit.functions[0]
+        lines = found.get(its.file, edit.crate.sources()[its.file]).split("\n")
+        found[its.file] = "\n".join([*lines[: its.last], "", *edit.copy(name), *lines[its.last :]])
+        found.update(proof_of_copy(edit.crate, its.place, name))
+    return found
+
+
+def laid_out(edits):
+    """The texts in which these edits stand, each in a function of its own, and the functions of each; or None where one
+    of them can't be applied."""
+    crate, copies, taken = edits[0].crate, {}, set()
+    for edit in edits:
+        if not taken.isdisjoint(edit.functions):
+            copies[edit] = f"{edit.functions[0].name.rpartition('::')[2]}_wrong{len(copies) + 1}"
+        taken.update(edit.functions)
+    texts = edited([it for it in edits if it not in copies])
+    if not texts:
+        return None
+    texts, where = with_copies(texts, copies), {}
+    for edit in edits:
+        for its in edit.functions:
+            before = [it for it in functions_of(crate, its.file, crate.sources()[its.file]) if it.name == its.name]
+            name = "::".join([*its.name.split("::")[:-1], copies[edit]]) if edit in copies else its.name
+            text = texts.get(its.file, crate.sources()[its.file])
+            after = [it for it in functions_of(crate, its.file, text) if it.name == name]
+            where.setdefault(edit, []).append(after[0 if edit in copies else before.index(its)])
+    return texts, where
 
 
 def check(edits, is_whole=False):
     """Checks a copy that holds these edits: the functions that they change, where that is all, in a crate in which no other
-    has a body; or the whole crate as it is."""
-    crate, functions = edits[0].crate, {it for edit in edits for it in edit.functions}
-    texts, only = edited(edits), sorted({it.name for it in functions})
+    has a body; or the whole crate as it is. Returns the status, what was said, and the functions of each edit."""
+    crate, (texts, where) = edits[0].crate, laid_out(edits)
+    functions = {it for edit in where for it in where[edit]}
+    only = sorted({it.name for it in functions})
     if functions and not is_whole:
         texts = hollow(crate, texts, functions)
     status, said, seconds = crate.timed_check(texts, only)
     if status == 2 and only:  # a name that fits no function alone
         status, said, seconds = crate.timed_check(texts)
     print(f"{crate.name}: a check of {len(edits)}, {seconds:.0f} s", flush=True)
-    return status, said
+    return status, said, where
 
 
-def refusal(edit, said):
-    """What a check refuses in a function that the edit changes, for the function's own lines, or nothing."""
+def refusal(functions, said):
+    """What a check refuses in one of these functions, for the function's own lines, or nothing."""
     goals, files = [], []
     for line in said.split("\n"):
         goal, error = GOAL.match(line), ERROR.match(line)
@@ -145,7 +226,7 @@ def refusal(edit, said):
             continue
         symbol, _, verdict = line[3:].partition(": ")
         folder = f"proofs/{'/'.join(symbol.split('::')[1:])}/"
-        for its in edit.functions if verdict.startswith(("not proved", "no proof")) else ():
+        for its in functions if verdict.startswith(("not proved", "no proof")) else ():
             own = [name for file, at, name in goals if file == its.file and its.first <= at <= its.last]
             own += [file for file in files if file.startswith(folder) and symbol.endswith(f"::{its.name}")]
             if own:
@@ -157,11 +238,11 @@ def refusal(edit, said):
 def try_group(group):
     """Checks a copy that holds a group, and tells those that are refused at a function of theirs."""
     if group[0].functions:
-        _, said = check(group)
+        _, said, where = check(group)
         if not re.search("^fn ", said, re.M):  # it couldn't be read so
-            _, said = check(group, is_whole=True)
+            _, said, where = check(group, is_whole=True)
         for edit in group:
-            found = refusal(edit, said)
+            found = refusal(where[edit], said)
             if found:
                 edit.tell(f"refused, {found}")
 
@@ -171,13 +252,13 @@ def verdict_alone(edit, is_whole):
     texts = edited([edit])
     if not texts:
         return "BAD EDIT: it can't be applied: each old text stands once in its file"
-    status, said = check([edit], is_whole)
+    status, said, where = check([edit], is_whole)
     lines = said.rstrip().split("\n")
     errors = [it for it in lines if ERROR.match(it)]
     placed = [it for it in errors if ERROR.match(it)[1] in texts]
     bad = [it for it in placed if "error: `" not in it or UNREADABLE.search(it)]
     told = [it for it in lines if GOAL.match(it) or it in errors and not TAKEN_AWAY.search(it)]
-    found = refusal(edit, said)
+    found = refusal(where.get(edit, ()), said)
     if bad:
         return f"BAD EDIT: it doesn't compile or read: {bad[0][:150]}"
     if found:

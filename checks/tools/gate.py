@@ -3,8 +3,8 @@
 ./test works in a copy of the repository, and takes nothing that was kept but checks/verdicts.txt. `rt ci` proves every
 crate from nothing and runs the programs, without the test crates and the wrong bodies; beside it, at a lower priority,
 all tests are run unproved (tests.py), the verdicts that aren't known any more are tried (verdicts.py), and the scripts
-that need no program; behind it those that do. --all takes no verdict as known, and writes verdicts.txt anew. --quick
-proves next to nothing: quick.py says what it does.
+that need no program; behind it those that do. --all takes no verdict as known, writes verdicts.txt anew, and runs the
+tests with the address sanitizer. --quick proves next to nothing: quick.py says what it does.
 
 What failed is told where it was tried, and once more at the end, with the last lines that say so. The last line is
 'N passed, M failed', of all that was tried, and where verdicts were taken from the record ', K skipped': so many.
@@ -110,7 +110,8 @@ class Gate:
 
     def check(self, name, folder, nice):
         """Runs a script of checks/, and tells what it said once it has ended."""
-        words = {"verdicts.py": self.words, "tests.py": ["--keep", f"{self.run}/tests"]}.get(name, [])
+        of_tests = ["--native"] * (self.words != ["--all"]) + ["--keep", f"{self.run}/tests"]
+        words = {"verdicts.py": self.words, "tests.py": of_tests}.get(name, [])
         kind = "edits" if name == "verdicts.py" else "check"
         running = self.start(kind, folder, [f"checks/{name}", *words], nice)
         said = running.communicate()[0].rstrip("\n")
