@@ -1,7 +1,7 @@
 //! A station and a hub over the records in a database file.
 
 ghost use Rattle.std.specs.Prelude.{◌≡◌, ◌∷◌, IsTrue, IfOk, option_to_list};
-ghost use Rattle.sqlite.specs.Files.{image_of};
+ghost use Rattle.sqlite.specs.Files.{file_state, image_of};
 ghost use Rattle.sqlite.specs.Held.{state};
 ghost use Rattle.sqlite.specs.State.{HasCleanDisk, Opens};
 ghost use Rattle.sqlite_trees.specs.Tree.{Trees};
@@ -13,7 +13,7 @@ ghost use Rattle.x12_hub.specs.Stored.{hub_of};
 ghost use Rattle.x12_station.specs.Opened.{opened};
 ghost use Rattle.x12_hub_records.specs.HubContent.{hub_content_of};
 ghost use Rattle.x12_station_records.specs.StationContent.{content_of};
-ghost use Rattle.x12_records.specs.Left.{IsFoundIn, IsStations, AreLeft};
+ghost use Rattle.x12_records.specs.Left.{IsFoundIn, IsStations, AreLeft, LeavesStation};
 
 use sqlite::{Alter, Connection, Files, Options};
 use sqlite_disk::{Disk, Start, Wary};
@@ -135,13 +135,29 @@ pub fn open_station_over<D: Disk + Drop>(
     }
 }
 
+/// Ends a station, and gives back the connection to its database.
+fn end_station<S: Alter + Drop>(station: Station<SqliteRecords<S>>) -> Connection<S>
+    ensures { LeavesStation (state S.Store result) }
+{
+    station.close().into_connection()
+}
+
+/// Ends a connection to a station's database, and gives back its log and database file.
+fn end_connection<D: Disk + Drop>(conn: Connection<FileStore<D>>) -> Files<D>
+    requires { LeavesStation (file_state conn) }
+    ensures { AreClean D.Disk result.log result.db → (image : Image) →
+        outcomes D.Disk result.log result.db image → AreLeft image }
+{
+    conn.into_store().close()
+}
+
 /// Ends a station, and gives its log and database file back as they stand: over whatever a stop leaves
 /// of them, at once or before all is synced, its station may be opened.
 pub fn leave_station<D: Disk + Drop>(station: Station<SqliteRecords<FileStore<D>>>) -> Files<D>
     ensures left { AreClean D.Disk result.log result.db → (image : Image) →
         outcomes D.Disk result.log result.db image → AreLeft image }
 {
-    station.close().into_connection().into_store().close()
+    end_connection(end_station(station))
 }
 
 /// Opens a hub over the records in a database.
