@@ -1,5 +1,10 @@
 //! A station over SQLite tables ends: its records are taken out, taken over, and opened again.
 
+ghost use Rattle.std.specs.Prelude.{IsTrue};
+ghost use Rattle.sqlite.specs.Held.{state};
+ghost use Rattle.x12_station.specs.Durable.{IsHistoryOf};
+ghost use Rattle.x12_station_records.specs.StationContent.{content_of};
+
 use crate::fixture::{ALPHA, BETA, FIRST, HUB, OTHER};
 use sqlite::{Alter, Connection};
 use std::alloc::Global;
@@ -40,14 +45,21 @@ pub(crate) fn made<S: Alter + Drop>(
     }
 }
 
+/// The database of a station, which it leaves.
+fn ended<S: Alter + Drop>(station: Station<SqliteRecords<S>>) -> Connection<S>
+    ensures written { IsTrue (state S.Store result).is_open →
+        IsHistoryOf station.state.me station.state.hubs (content_of (state S.Store result).now.trees) }
+{
+    station.close().into_connection()
+}
+
 /// The station of a database that this one's records leave, or nothing where they aren't taken over.
 pub(crate) fn opened_again<S: Alter + Drop>(
     alloc: Global,
     station: Station<SqliteRecords<S>>,
 ) -> Option<Station<SqliteRecords<S>>> {
     let (me, hub, other) = (station.party(), station.hub(), station.other());
-    let conn = station.close().into_connection();
-    match SqliteRecords::adopt(conn, me, hub, other) {
+    match SqliteRecords::adopt(ended(station), me, hub, other) {
         Ok(records) => Station::open(alloc, me, hub, other, records).ok(),
         Err(_) => None,
     }

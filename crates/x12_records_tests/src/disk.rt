@@ -175,3 +175,8 @@ pub(crate) fn opened<D: Disk + Drop>(
         Err(_) => None,
     }
 }
+
+/// The files of a database, which it leaves.
+pub(crate) fn left<D: Disk + Drop>(conn: Connection<FileStore<D>>) -> Files<D> {
+    conn.into_store().close()
+}

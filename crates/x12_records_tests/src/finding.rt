@@ -145,6 +145,14 @@ fn hold_all<R: Records>(rt: &impl Abort, records: &mut R) -> Result<(), StoreFau
     has_no_more(rt, records)
 }
 
+/// Stops the test unless all is found in this database, whose records are taken over.
+fn finds_again<S: Alter + Drop>(rt: &impl Abort, conn: Connection<S>) -> Result<(), Fail> {
+    match SqliteRecords::adopt(conn, ALPHA, HUB, None) {
+        Ok(mut again) => Ok(hold_all(rt, &mut again)?),
+        Err(_) => Err(Fail::new("not taken over")),
+    }
+}
+
 /// Stops the test unless all is found in this database, before its records are taken over and after.
 fn finds_all<S: Alter + Drop>(
     rt: &impl Abort,
@@ -157,10 +165,7 @@ fn finds_all<S: Alter + Drop>(
     let mut records = alpha.close();
     assert!(rt; told?);
     hold_all(rt, &mut records)?;
-    match SqliteRecords::adopt(records.into_connection(), ALPHA, HUB, None) {
-        Ok(mut again) => Ok(hold_all(rt, &mut again)?),
-        Err(_) => Err(Fail::new("not taken over")),
-    }
+    finds_again(rt, records.into_connection())
 }
 
 #[test]

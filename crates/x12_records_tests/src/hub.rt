@@ -32,6 +32,11 @@ pub(crate) fn taken_over<S: Alter + Drop>(
     }
 }
 
+/// The database of a hub, which it leaves.
+pub(crate) fn ended<S: Alter + Drop>(hub: Hub<SqliteHubRecords<S>>) -> Connection<S> {
+    hub.close().into_connection()
+}
+
 /// Whether an interchange was put into the mailbox of BETA's node, as the item of this number.
 pub(crate) fn boxes(decision: &Decision, number: u32) -> bool {
     match decision {
@@ -73,8 +78,7 @@ fn records_that_are_given_back_are_taken_over_again(rt: HostRuntime) -> Result<(
     let mut hub = made(rt.alloc(), conn).ok_or("not made")?;
     hub.enrol(BETA, 2)?;
     assert!(rt; is_boxed(&mut hub, FIRST, 1)? && is_boxed(&mut hub, SECOND, 2)?);
-    let conn = hub.close().into_connection();
-    let mut hub = taken_over(rt.alloc(), conn).ok_or("not taken over")?;
+    let mut hub = taken_over(rt.alloc(), ended(hub)).ok_or("not taken over")?;
     assert!(rt; !hub.is_new() && holds(&mut hub, &[FIRST, SECOND])?);
     assert!(rt; is_boxed(&mut hub, FIRST, 1)? && hub.taken(2, 1)?);
     Ok(())
@@ -88,8 +92,7 @@ fn tables_are_made_once_and_others_are_refused(rt: HostRuntime) -> Result<(), Fa
         .ok_or("taken over")?;
     assert_eq!(rt; fault, RecordsFault::NotOurs);
     let hub = made(rt.alloc(), conn).ok_or("not made")?;
-    let conn = hub.close().into_connection();
-    let (conn, fault) = SqliteHubRecords::create(conn, HUB)
+    let (conn, fault) = SqliteHubRecords::create(ended(hub), HUB)
         .err()
         .ok_or("made twice")?;
     assert_eq!(rt; fault, RecordsFault::NotOurs);

@@ -4,9 +4,9 @@
 
 ghost use Rattle.std.specs.Prelude.{IsTrue};
 
-use crate::disk::{NEVER, STEPS, Stop, Stops, empty, killed, large, lost, opened, small};
+use crate::disk::{NEVER, STEPS, Stop, Stops, empty, killed, large, left, lost, opened, small};
 use crate::fixture::{ALPHA, BETA, FIRST, HUB, SECOND};
-use crate::hub::{are_items, boxes, holds, is_boxed};
+use crate::hub::{are_items, boxes, ended, holds, is_boxed};
 use sqlite::{Files, Options};
 use sqlite_disk::Disk;
 use std::alloc::Global;
@@ -133,8 +133,7 @@ fn opened_for<D: Disk + Drop>(
 {
     let mut hub = open_hub_over(alloc, files, options, HUB)?;
     let found = tell(rt, &mut hub, tale);
-    let files = hub.close().into_connection().into_store().close();
-    Ok((found, files))
+    Ok((found, left(ended(hub))))
 }
 
 /// The same, where the hub has to be opened.
@@ -157,7 +156,7 @@ fn told<D: Disk + Drop>(
 fn created<D: Disk + Drop>(alloc: Global, files: Files<D>) -> Result<Files<D>, Fail> {
     let conn = opened(alloc, files).ok_or("not opened")?;
     match SqliteHubRecords::create(conn, HUB) {
-        Ok(records) => Ok(records.into_connection().into_store().close()),
+        Ok(records) => Ok(left(records.into_connection())),
         Err(_) => Err(Fail::new("not made")),
     }
 }

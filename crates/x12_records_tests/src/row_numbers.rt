@@ -23,7 +23,7 @@ fn left_hub<S: Alter + Drop>(
     alloc: Global,
     hub: Hub<SqliteHubRecords<S>>,
 ) -> Result<Hub<SqliteHubRecords<S>>, Fail> {
-    Ok(taken_over(alloc, hub.close().into_connection()).ok_or("not taken over")?)
+    Ok(taken_over(alloc, hub::ended(hub)).ok_or("not taken over")?)
 }
 
 /// Enrols BETA at a node, and dismisses it, each followed by the end of the hub.
@@ -64,8 +64,11 @@ fn a_hundred_enrolments_and_dismissals_use_up_no_number(rt: HostRuntime) -> Resu
         hub = come_and_go(&rt, alloc, hub, node)?;
     }
     hub.enrol(BETA, 2)?;
-    let conn = hub.close().into_connection();
-    let rows = numbers(alloc, conn, "SELECT at FROM directory ORDER BY at")?;
+    let rows = numbers(
+        alloc,
+        hub::ended(hub),
+        "SELECT at FROM directory ORDER BY at",
+    )?;
     assert!(rt; rows.as_slice() == [1i64, 2].as_slice());
     Ok(())
 }
