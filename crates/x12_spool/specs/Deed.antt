@@ -20,7 +20,7 @@ pub data Deed : Type 0 where
   Lists : List File → Deed
   -- the file of this name was read: these bytes
   Reads : List ℕ → Bytes → Deed
-  -- the file of this name can't be read: it was word_for_hub, and the file left where it is
+  -- the file of this name can't be read: that was told, and the file left where it is
   PassesOver : List ℕ → Deed
   -- an interchange was put where it is taken on
   Sends : Bytes → Deed
@@ -47,7 +47,7 @@ pub data Deed : Type 0 where
   -- the folder's names are on the disk
   Syncs : Deed
 
--- where deeds are word_for_hub, these were done
+-- where deeds are told, these were done
 abbrev pub AddsDeeds : Option (List Deed) → Option (List Deed) → List Deed → Type 0
 AddsDeeds None new deeds = ⊤
 AddsDeeds (Some was) new deeds = new ≡ Some (was ++ deeds)

@@ -23,7 +23,7 @@ failures_beside h ns = (h.first.failures ∷ ns) ++ second_failures h.second
 abbrev pub failures_of : {H R : Type 0} → CodeHubs H → List (StationView R) → List ℕ
 failures_of h ss = failures_beside h (station_failures ss)
 
--- the records of one node, at some place, failed once more, and those of the others as often as before
+-- the count of failures of one node's records, at some place, rose, and those of the others stayed
 pub record OneFailed (old new : List ℕ) : Type 0 where
   pub place : ℕ
   pub before : ℕ

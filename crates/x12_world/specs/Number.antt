@@ -1,5 +1,6 @@
--- Control numbers: what a node wrote, ever, has numbers up to its last ones, and those of a station's
--- submissions rise.
+-- Control numbers: an interchange that bears a node's name, in any packet that was ever sent, has a
+-- number up to the node's last one. The numbers of a station's submissions rise, and their groups have
+-- numbers up to its last one.
 use Rattle.std.specs.Prelude.{◌≡◌, ℕ, ◌<◌, ◌≤◌, Contains, AllPairs}
 use Rattle.x12_profile.specs.Interchange.{Bytes}
 use Rattle.x12_profile.specs.Profile.{Profile}

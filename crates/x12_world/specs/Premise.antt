@@ -1,5 +1,5 @@
 -- The laws can be met, and the headline then speaks of something: sets get accepted, and sets get
--- rejected, with one hub and by way of two.
+-- rejected, in a network with one hub and in one with two.
 use Rattle.std.specs.Prelude.{◌≡◌, ℕ, List, Bool, is_some}
 use Rattle.x12_profile.specs.Interchange.{Bytes, PlacedTransactionSet}
 use Rattle.x12_profile.specs.Profile.{Profile}

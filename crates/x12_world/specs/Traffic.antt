@@ -57,9 +57,8 @@ module _ (p : Profile) where
         → Contains w.packets q → q.packet.load ≡ Item item b
         → (h : Hub) × HubAt w q.packet.from h
         × Contains h.decisions (record { body = b; outcome = Boxed q.packet.to item })
-    -- What a hub decided under a station's name came from that station, which is one of its own, or
-    -- another hub put it into the mailbox of this one. Else a set that one hub refused could be
-    -- posted by way of the other.
+    -- What a hub decided under a station's name is of a station of its own, or some hub put it into
+    -- the mailbox of this one. Else a set that one hub refused could be posted by way of the other.
     pub decided_from : (k : ℕ) (h : Hub) (d : Decision) → HubAt w k h → Contains h.decisions d
         → (i : ℕ) (s : Station) → StationAt w i s → s.me ≡ p.sender d.body
         → (home_of w.nodes i ≡ k) ⊎ IsBoxedFor w k d.body
