@@ -29,13 +29,13 @@ pub(crate) enum ActionLine<'a> {
     Agree {
         node: Name,
         partner: Name,
-        pairs: Words<'a>,
+        pairs: Option<&'a [u8]>,
     },
     /// A station submits orders with these texts.
     Orders {
         node: Name,
         to: Name,
-        texts: Words<'a>,
+        texts: Option<&'a [u8]>,
     },
     /// A station submits these bytes.
     Prepared {
@@ -56,89 +56,105 @@ pub(crate) enum ActionLine<'a> {
     Restart(Name),
 }
 
+impl<'a> ActionLine<'a> {
+    /// The node that does it.
+    pub(crate) fn actor(&self) -> Name {
+        match *self {
+            ActionLine::Enrol { hub, .. } => hub,
+            ActionLine::Dismiss { hub, .. } => hub,
+            ActionLine::Agree { node, .. } => node,
+            ActionLine::Orders { node, .. } => node,
+            ActionLine::Prepared { node, .. } => node,
+            ActionLine::Tick { node, .. } => node,
+            ActionLine::Collect { hub, .. } => hub,
+            ActionLine::Restart(node) => node,
+        }
+    }
+}
+
 /// `enrol PARTY NODE [HUB2]`
-fn enrol<'a>(mut words: Words<'a>) -> Result<ActionLine<'a>, LineFault<'a>> {
-    let party = words.name()?;
-    let node = words.name()?;
-    let hub = words.hub()?;
-    Ok(ActionLine::Enrol { party, node, hub })
+fn enrol<'a>(rest: Option<&'a [u8]>) -> Result<ActionLine<'a>, LineFault<'a>> {
+    let mut words = Words::new(rest, "enrol PARTY NODE");
+    let (party, node) = (words.name(), words.name());
+    let hub = words.hub();
+    words.end_with(ActionLine::Enrol { party, node, hub })
 }
 
 /// `dismiss PARTY [HUB2]`
-fn dismiss<'a>(mut words: Words<'a>) -> Result<ActionLine<'a>, LineFault<'a>> {
-    let party = words.name()?;
-    let hub = words.hub()?;
-    Ok(ActionLine::Dismiss { party, hub })
+fn dismiss<'a>(rest: Option<&'a [u8]>) -> Result<ActionLine<'a>, LineFault<'a>> {
+    let mut words = Words::new(rest, "dismiss PARTY");
+    let party = words.name();
+    let hub = words.hub();
+    words.end_with(ActionLine::Dismiss { party, hub })
 }
 
 /// `agree NODE PARTY PAIR..`
-fn agree<'a>(mut words: Words<'a>) -> Result<ActionLine<'a>, LineFault<'a>> {
-    let node = words.name()?;
-    let partner = words.name()?;
-    Ok(ActionLine::Agree {
+fn agree<'a>(rest: Option<&'a [u8]>) -> Result<ActionLine<'a>, LineFault<'a>> {
+    let mut words = Words::new(rest, "agree NODE PARTY PAIR..");
+    let (node, partner) = (words.name(), words.name());
+    let pairs = words.left();
+    words.end_with(ActionLine::Agree {
         node,
         partner,
-        pairs: words,
+        pairs,
     })
 }
 
 /// `orders NODE PARTY TEXT..`
-fn orders<'a>(mut words: Words<'a>) -> Result<ActionLine<'a>, LineFault<'a>> {
-    let node = words.name()?;
-    let to = words.name()?;
-    Ok(ActionLine::Orders {
-        node,
-        to,
-        texts: words,
-    })
+fn orders<'a>(rest: Option<&'a [u8]>) -> Result<ActionLine<'a>, LineFault<'a>> {
+    let mut words = Words::new(rest, "orders NODE PARTY TEXT..");
+    let (node, to) = (words.name(), words.name());
+    let texts = words.left();
+    words.end_with(ActionLine::Orders { node, to, texts })
 }
 
 /// `prepared NODE BYTES`
-fn prepared<'a>(mut words: Words<'a>) -> Result<ActionLine<'a>, LineFault<'a>> {
-    let node = words.name()?;
-    let bytes = words.bytes()?;
-    Ok(ActionLine::Prepared { node, bytes })
+fn prepared<'a>(rest: Option<&'a [u8]>) -> Result<ActionLine<'a>, LineFault<'a>> {
+    let mut words = Words::new(rest, "prepared NODE BYTES");
+    let node = words.name();
+    let bytes = words.bytes();
+    words.end_with(ActionLine::Prepared { node, bytes })
 }
 
 /// `tick NODE N`
-fn tick<'a>(mut words: Words<'a>) -> Result<ActionLine<'a>, LineFault<'a>> {
-    let node = words.name()?;
-    let now = words.number(u64::MAX)?;
-    words.end()?;
-    Ok(ActionLine::Tick { node, now })
+fn tick<'a>(rest: Option<&'a [u8]>) -> Result<ActionLine<'a>, LineFault<'a>> {
+    let mut words = Words::new(rest, "tick NODE NUMBER");
+    let node = words.name();
+    let now = words.number(u64::MAX);
+    words.end_with(ActionLine::Tick { node, now })
 }
 
 /// `collect NODE [HUB2]`
-fn collect<'a>(mut words: Words<'a>) -> Result<ActionLine<'a>, LineFault<'a>> {
-    let node = words.name()?;
-    let hub = words.hub()?;
-    Ok(ActionLine::Collect { node, hub })
+fn collect<'a>(rest: Option<&'a [u8]>) -> Result<ActionLine<'a>, LineFault<'a>> {
+    let mut words = Words::new(rest, "collect NODE");
+    let node = words.name();
+    let hub = words.hub();
+    words.end_with(ActionLine::Collect { node, hub })
 }
 
 /// `restart NODE`
-fn restart<'a>(mut words: Words<'a>) -> Result<ActionLine<'a>, LineFault<'a>> {
-    let node = words.name()?;
-    words.end()?;
-    Ok(ActionLine::Restart(node))
+fn restart<'a>(rest: Option<&'a [u8]>) -> Result<ActionLine<'a>, LineFault<'a>> {
+    let mut words = Words::new(rest, "restart NODE");
+    let node = words.name();
+    words.end_with(ActionLine::Restart(node))
 }
 
-/// What a line with this first word has a node do; `None` where it has none do anything.
+/// What a line with this first word has a node do, of which this is the rest.
 pub(crate) fn read_action<'a>(
-    word: &str,
+    word: &'a str,
     rest: Option<&'a [u8]>,
-) -> Result<Option<ActionLine<'a>>, LineFault<'a>> {
-    let action = match word {
-        "enrol" => enrol(Words::new(rest, "enrol PARTY NODE"))?,
-        "dismiss" => dismiss(Words::new(rest, "dismiss PARTY"))?,
-        "agree" => agree(Words::new(rest, "agree NODE PARTY PAIR.."))?,
-        "orders" => orders(Words::new(rest, "orders NODE PARTY TEXT.."))?,
-        "prepared" => prepared(Words::new(rest, "prepared NODE BYTES"))?,
-        "tick" => tick(Words::new(rest, "tick NODE NUMBER"))?,
-        "collect" => collect(Words::new(rest, "collect NODE"))?,
-        "restart" => restart(Words::new(rest, "restart NODE"))?,
-        _ => return Ok(None),
-    };
-    Ok(Some(action))
+) -> Result<ActionLine<'a>, LineFault<'a>> {
+    match word {
+        "enrol" => enrol(rest),
+        "dismiss" => dismiss(rest),
+        "agree" => agree(rest),
+        "orders" => orders(rest),
+        "prepared" => prepared(rest),
+        "tick" => tick(rest),
+        "collect" => collect(rest),
+        "restart" => restart(rest),
+        word => Err(LineFault::NoSuchWord(word)),
+    }
 }
 
 /// The order with a text, on a date: one item, ten of it at five.
@@ -160,9 +176,9 @@ fn is_barred(text: &[u8]) -> bool {
 impl Setting {
     /// The orders with these texts, of today. Of too many it leaves out those that change nothing of
     /// the refusal: a text that can't be written is told before the number of orders.
-    fn orders<'a>(&self, texts: &Words<'a>) -> Result<Vec<Body>, Stop<'a>> {
+    fn orders<'a>(&self, texts: Option<&'a [u8]>) -> Result<Vec<Body>, Stop<'a>> {
         let mut orders = Vec::new(self.alloc);
-        let Some(texts) = texts.left() else {
+        let Some(texts) = texts else {
             return Ok(orders);
         };
         let date = self.at.date();
@@ -178,9 +194,9 @@ impl Setting {
     }
 
     /// These pairs of GS01 and ST01.
-    fn pairs<'a>(&self, words: &Words<'a>) -> Result<Vec<([u8; 2], [u8; 3])>, Stop<'a>> {
+    fn pairs<'a>(&self, words: Option<&'a [u8]>) -> Result<Vec<([u8; 2], [u8; 3])>, Stop<'a>> {
         let mut pairs = Vec::new(self.alloc);
-        let Some(words) = words.left() else {
+        let Some(words) = words else {
             return Ok(pairs);
         };
         for word in words.split(|byte| *byte == b' ') {
@@ -192,41 +208,33 @@ impl Setting {
         Ok(pairs)
     }
 
-    /// The node and the action of a line.
-    pub(crate) fn action<'a>(&self, line: &ActionLine<'a>) -> Result<(u16, Action), Stop<'a>> {
-        let (name, action) = match *line {
-            ActionLine::Enrol { party, node, hub } => {
+    /// What a line has its node do.
+    pub(crate) fn action<'a>(&self, line: &ActionLine<'a>) -> Result<Action, Stop<'a>> {
+        match *line {
+            ActionLine::Enrol { party, node, .. } => {
                 let (party, node) = (party.party, self.node(&node));
-                (hub, Action::Enrol { party, node })
+                Ok(Action::Enrol { party, node })
             }
-            ActionLine::Dismiss { party, hub } => {
-                let party = party.party;
-                (hub, Action::Dismiss { party })
-            }
-            ActionLine::Agree {
-                node,
-                partner,
-                pairs,
-            } => {
-                let (partner, pairs) = (partner.party, self.pairs(&pairs)?);
+            ActionLine::Dismiss { party, .. } => Ok(Action::Dismiss { party: party.party }),
+            ActionLine::Agree { partner, pairs, .. } => {
+                let (partner, pairs) = (partner.party, self.pairs(pairs)?);
                 let agreement = Agreement { partner, pairs };
-                (node, Action::Agree { agreement })
+                Ok(Action::Agree { agreement })
             }
-            ActionLine::Orders { node, to, texts } => {
-                let (to, at, orders) = (to.party, self.at, self.orders(&texts)?);
-                (node, Action::SubmitOrders { to, at, orders })
+            ActionLine::Orders { to, texts, .. } => {
+                let (to, at, orders) = (to.party, self.at, self.orders(texts)?);
+                Ok(Action::SubmitOrders { to, at, orders })
             }
-            ActionLine::Prepared { node, bytes } => {
+            ActionLine::Prepared { bytes, .. } => {
                 let bytes = Vec::from_slice(self.alloc, bytes)?;
-                (node, Action::SubmitPrepared { bytes })
+                Ok(Action::SubmitPrepared { bytes })
             }
-            ActionLine::Tick { node, now } => (node, Action::Tick { now }),
-            ActionLine::Collect { node, hub } => {
+            ActionLine::Tick { now, .. } => Ok(Action::Tick { now }),
+            ActionLine::Collect { node, .. } => {
                 let node = self.node(&node);
-                (hub, Action::Collect { node })
+                Ok(Action::Collect { node })
             }
-            ActionLine::Restart(node) => (node, Action::Restart),
-        };
-        Ok((self.node(&name), action))
+            ActionLine::Restart(_) => Ok(Action::Restart),
+        }
     }
 }

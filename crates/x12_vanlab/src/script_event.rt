@@ -21,7 +21,7 @@ impl Setting {
     pub(crate) fn event<'a>(&self, line: &EventLine<'a>) -> Result<Event, Stop<'a>> {
         match *line {
             EventLine::At(action) => {
-                let (node, action) = self.action(&action)?;
+                let (node, action) = (self.node(&action.actor()), self.action(&action)?);
                 Ok(Event::At { node, action })
             }
             EventLine::Deliver(packet) => Ok(Event::Deliver {

@@ -26,7 +26,7 @@ use x12_acks::SetKey;
 use x12_answering::write_piece;
 use x12_hub::HubFault;
 use x12_station::StationFault;
-use x12_world::{Audit, NodeFault, PacketName, Refused};
+use x12_world::{Audit, NodeFault, Outcome, PacketName, Refused};
 
 /// Whether memory was missing.
 fn is_memory(refused: &Refused) -> bool {
@@ -81,15 +81,20 @@ impl Script {
         }
     }
 
+    /// Tells what came of an event.
+    fn tell_event(&mut self, came: &Result<Outcome, Refused>) -> Result<(), AllocError> {
+        match came {
+            Ok(outcome) if outcome.lost => Err(AllocError),
+            Ok(outcome) => push_outcome(&mut self.text, &self.setting, outcome),
+            Err(refused) if is_memory(refused) => Err(AllocError),
+            Err(refused) => push_refusal(&mut self.text, refused),
+        }
+    }
+
     /// Lets an event happen.
     fn happen<'a>(&mut self, net: &mut Net, line: &EventLine<'a>) -> Result<(), Stop<'a>> {
         let event = self.setting.event(line)?;
-        match net.apply(&event) {
-            Ok(outcome) if outcome.lost => Err(Stop::Memory),
-            Ok(outcome) => Ok(push_outcome(&mut self.text, &self.setting, &outcome)?),
-            Err(refused) if is_memory(&refused) => Err(Stop::Memory),
-            Err(refused) => Ok(push_refusal(&mut self.text, &refused)?),
-        }
+        Ok(self.tell_event(&net.apply(&event))?)
     }
 
     /// Tells how a transaction set fares.
@@ -178,16 +183,25 @@ impl Script {
         }
     }
 
+    /// Takes a line of those that stand in front: the second hub's, a station's or the clock's. Any
+    /// other it leaves, and says `false`.
+    fn take_front<'a>(&mut self, line: &Line<'a>) -> Result<bool, Stop<'a>> {
+        match *line {
+            Line::Clock(at) => self.setting.at = at,
+            Line::SecondHub => self.setting.add_second_hub()?,
+            Line::Station(station) => self.setting.add(station)?,
+            _ if self.setting.is_empty() => return Err(Stop::BadLine(LineFault::NoStation)),
+            _ => return Ok(false),
+        }
+        Ok(true)
+    }
+
     /// Takes the second hub's line and the stations' lines, and those of the clock among them.
     fn open<'a>(&mut self, lines: &mut Lines<'a>) -> Result<(), Stop<'a>> {
         let mut ahead = *lines;
         while let Some(bytes) = ahead.take() {
-            match read_line(bytes)? {
-                Line::Clock(at) => self.setting.at = at,
-                Line::SecondHub => self.setting.add_second_hub()?,
-                Line::Station(station) => self.setting.add(station)?,
-                _ if self.setting.is_empty() => return Err(Stop::BadLine(LineFault::NoStation)),
-                _ => return Ok(()),
+            if !self.take_front(&read_line(bytes)?)? {
+                return Ok(());
             }
             *lines = ahead;
         }

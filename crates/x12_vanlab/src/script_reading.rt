@@ -6,7 +6,7 @@ use crate::script_form::{
     clock, counts, deliver, fate, outside, postings, report, second_hub, show, station,
 };
 use crate::script_line::{EventLine, Line};
-use crate::script_word::{Words, cut_at, text_of};
+use crate::script_word::{cut_at, cut_word, text_of};
 
 /// Whether a line ends with bytes as they stand: of `prepared` or `outside`, with a space behind the
 /// node.
@@ -15,8 +15,7 @@ fn ends_with_bytes(line: &[u8]) -> bool {
         return false;
     };
     match text_of(word) {
-        "prepared" => cut_at(b' ', rest).is_some(),
-        "outside" => cut_at(b' ', rest).is_some(),
+        "prepared" | "outside" => cut_at(b' ', rest).is_some(),
         _ => false,
     }
 }
@@ -35,27 +34,34 @@ fn check<'a>(line: &'a [u8]) -> Result<(), LineFault<'a>> {
     }
 }
 
+/// The line in which a node does something: of any other word than those of `read_words`.
+fn read_own<'a>(word: &'a str, rest: Option<&'a [u8]>) -> Result<Line<'a>, LineFault<'a>> {
+    match read_action(word, rest) {
+        Ok(action) => Ok(Line::Event(EventLine::At(action))),
+        Err(fault) => Err(fault),
+    }
+}
+
+/// The line with this first word, of which this is the rest.
+fn read_words<'a>(word: &'a str, rest: Option<&'a [u8]>) -> Result<Line<'a>, LineFault<'a>> {
+    match word {
+        "clock" => clock(rest),
+        "hub2" => second_hub(rest),
+        "station" => station(rest),
+        "outside" => outside(rest),
+        "deliver" => deliver(rest),
+        "show" => show(rest),
+        "fate" => fate(rest),
+        "counts" => counts(rest),
+        "postings" => postings(rest),
+        "report" => report(rest),
+        word => read_own(word, rest),
+    }
+}
+
 /// Reads a line, which is given without its LF.
 pub(crate) fn read_line<'a>(line: &'a [u8]) -> Result<Line<'a>, LineFault<'a>> {
     check(line)?;
-    let (word, rest) = match cut_at(b' ', line) {
-        Some((word, rest)) => (text_of(word), Some(rest)),
-        None => (text_of(line), None),
-    };
-    match word {
-        "clock" => clock(Words::new(rest, "clock DATE TIME")),
-        "hub2" => second_hub(Words::new(rest, "hub2")),
-        "station" => station(Words::new(rest, "station NAME")),
-        "outside" => outside(Words::new(rest, "outside NODE BYTES")),
-        "deliver" => deliver(Words::new(rest, "deliver EVENT.PLACE")),
-        "show" => show(Words::new(rest, "show EVENT.PLACE")),
-        "fate" => fate(Words::new(rest, "fate NODE ICN GROUP SET")),
-        "counts" => counts(Words::new(rest, "counts NODE")),
-        "postings" => postings(Words::new(rest, "postings NODE")),
-        "report" => report(Words::new(rest, "report")),
-        word => match read_action(word, rest)? {
-            Some(action) => Ok(Line::Event(EventLine::At(action))),
-            None => Err(LineFault::NoSuchWord(word)),
-        },
-    }
+    let (word, rest) = cut_word(line);
+    read_words(text_of(word), rest)
 }

@@ -15,7 +15,7 @@ const NOWHERE: u16 = u16::MAX;
 
 /// The moment at which the clock starts: 2 January 2025, 09:30.
 #[tactic(auto, unfolding(x12_envelopes::specs::Moment::text_is_date, x12_envelopes::specs::Moment::text_is_time, x12_envelopes::specs::Byte::value_of_digits))]
-fn first_moment() -> Moment {
+pub(crate) fn first_moment() -> Moment {
     Moment::new(*b"20250102", *b"0930").unwrap()
 }
 
