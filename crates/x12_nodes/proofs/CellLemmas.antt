@@ -1,23 +1,22 @@
 -- A log that is one entry longer, and one that is as it was.
-use Rattle.std.proofs.Common.{◌≡◌, ℕ, ◌<◌, ◌≤◌, ◌-◌, ◌^◌, List, [], ◌∷◌, ◌++◌, Bool, true, nat_lt, Some, length, refl, IsTrue, ◌⊎◌, inl, inr, sym, ap, subst, ◌∙◌, arith}
+use Rattle.std.proofs.Common.{◌≡◌, ℕ, ◌<◌, ◌≤◌, ◌-◌, ◌^◌, List, [], ◌∷◌, ◌++◌, Bool, true, nat_lt, length, refl, IsTrue, ◌⊎◌, inl, inr, sym, ap, subst, ◌∙◌, arith}
 use Rattle.std.proofs.lemmas.Bool.Decides.{nat_tests}
 use Rattle.std.proofs.lemmas.Bool.{and_parts}
-use Rattle.x12_core.specs.Ask.{Ask, does_at}
-use Rattle.x12_core.specs.Core.{Did, IsCoreRefusal}
-use Rattle.x12_core.specs.declared.fault.CoreFault.{CoreFault}
-use Rattle.x12_core.specs.declared.fault.CoreFault.TheVariants as code
+use Rattle.x12_core.specs.Ask.{Ask, suits}
+use Rattle.x12_core.specs.Bound.{SendsAtMost}
+use Rattle.x12_core.specs.Core.{Did}
 use Rattle.x12_core.specs.declared.packet.Site.{Site}
 use Rattle.x12_core.specs.declared.node_core.Answer.{Answer}
 use Rattle.x12_core.specs.declared.node_core.Answer.TheVariants as core
-use Rattle.x12_core.specs.Effect.{Effect}
 use Rattle.x12_core.specs.Node.{Node}
 use Rattle.x12_core.specs.Sends.{sends_view}
-use Rattle.x12_nodes.specs.Cell.{CellView, IsCellRefusal, IsReplayed, fault_of_core, opening_node, stamp_may_follow}
+use Rattle.x12_nodes.specs.Cell.{CellView, IsCellRefusal, IsReplayed, IsStepRefusal, opening_node, stamp_may_follow}
+use Rattle.x12_nodes.specs.declared.fault.CellFault.{CellFault}
+use Rattle.x12_nodes.specs.declared.fault.CellFault.TheVariants as said
 use Rattle.x12_nodes.specs.declared.opening.Opening.{Opening}
 use Rattle.x12_nodes.specs.Log.{LogEntry, NodeAnswer, IsStepOf, Replays, StampsRise, last_stamp}
 use Rattle.x12_nodes.specs.View.{Receipt, receipt_of}
 use Rattle.x12_nodes.specs.Writing.{entry_of, IsEnoughFor}
-use Rattle.x12_profile.specs.X12.{x12}
 
 pub replays_push : (i : Site) (a b c : Node) (es : List LogEntry) (e : LogEntry) → Replays i a es b → IsStepOf i e b c → Replays i a (es ++ e ∷ []) c
 replays_push i a b c [] e was step = (c, subst (λ n. IsStepOf i e n c) was step, refl)
@@ -36,10 +35,10 @@ pub did_step : (i : Site) (stamp : ℕ) (k : Ask) (old new : Node) (did : Answer
 did_step i stamp k old new (core.Sent s) d = (d, refl)
 did_step i stamp k old new (core.Fate f) d = (d.0, refl, d.1)
 
--- what a core did fits into the room that was told before
-pub is_enough : (i : Site) (count : ℕ) (k : Ask) (old new : Node) (did : Answer) → ((j : Site) (e : Effect) → does_at x12 j k old ≡ Some e → length e.sends ≤ count) → Did i k old new did → IsEnoughFor count did
-is_enough i count k old new (core.Sent s) few d = few i (record { node = new; sends = sends_view s }) d
-is_enough i count k old new (core.Fate f) few d = omega arith
+-- what a core did fits into the room that was made for it
+pub is_enough : (most count : ℕ) (did : Answer) → count ≡ most → SendsAtMost most did → IsEnoughFor count did
+is_enough most count (core.Sent s) is few = subst (λ n. length (sends_view s) ≤ n) (sym is) few
+is_enough most count (core.Fate f) is few = omega arith
 
 may_follow_parts : (last stamp : ℕ) → stamp_may_follow last stamp ≡ true → (last < stamp) × (stamp < 2 ^ 64 - 1)
 may_follow_parts last stamp e =
@@ -85,8 +84,9 @@ pub copies_known : {A B : Type 0} (f : List A → List B) (copies : List A) (P :
 copies_known f copies P (inl is) nothing = inl is
 copies_known f copies P (inr none) nothing = inr (ap f none ∙ nothing)
 
--- what a core refuses, its cell does
-pub refused_by : (c : CellView) (stamp : ℕ) (k : Ask) (f : CoreFault) → stamp_may_follow c.last stamp ≡ true → IsCoreRefusal c.site.node k c.now f → IsCellRefusal c stamp k (fault_of_core f)
-refused_by c stamp k code.WrongKind follows why = why
-refused_by c stamp k code.Memory follows why = why
-refused_by c stamp k (code.Node fault) follows why = (follows, why)
+-- where a step is refused, its cell refuses
+pub refused_by : (c : CellView) (stamp : ℕ) (k : Ask) (f : CellFault) → suits c.site.node k c.now ≡ true → IsStepRefusal c.site.node (stamp_may_follow c.last stamp) k c.now f → IsCellRefusal c stamp k f
+refused_by c stamp k said.WrongKind fits why = why
+refused_by c stamp k said.Memory fits why = why
+refused_by c stamp k said.WentBack fits why = (fits, why)
+refused_by c stamp k (said.Core fault) fits why = why

@@ -92,3 +92,20 @@ IsCellRefusal c stamp ask cell.WentBack =
     (suits c.site.node ask c.now ≡ true) × (stamp_may_follow c.last stamp ≡ false)
 IsCellRefusal c stamp ask (cell.Core fault) =
     (stamp_may_follow c.last stamp ≡ true) × IsCoreRefusal c.site.node ask c.now (code.Node fault)
+
+-- before the core is asked, a cell refuses so: nodes of its kind aren't asked so, which this tells, or
+-- memory was missing
+abbrev pub IsUnready : Bool → CellFault → Type 0
+IsUnready fits cell.WrongKind = fits ≡ false
+IsUnready fits cell.Memory = fits ≡ true
+IsUnready fits cell.WentBack = ⊥
+IsUnready fits (cell.Core fault) = ⊥
+
+-- a step of the core of the node of this number is refused so: the stamp doesn't follow the last one,
+-- which this tells, or the core refuses
+abbrev pub IsStepRefusal : ℕ → Bool → Ask → Node → CellFault → Type 0
+IsStepRefusal node follows ask n cell.WrongKind = suits node ask n ≡ false
+IsStepRefusal node follows ask n cell.Memory = suits node ask n ≡ true
+IsStepRefusal node follows ask n cell.WentBack = follows ≡ false
+IsStepRefusal node follows ask n (cell.Core fault) =
+    (follows ≡ true) × IsCoreRefusal node ask n (code.Node fault)

@@ -11,11 +11,12 @@ ghost use Rattle.x12_nodes.specs.Cell.{CellWasCounted, StaysSo, TakesCall};
 ghost use Rattle.x12_nodes.specs.declared.fault.CellFault.TheVariants.{WrongKind};
 ghost use Rattle.x12_nodes.specs.View.{node_answer_view, log_entry_view, receipt_view};
 
+use crate::asking::{ready, step};
 use crate::copying::copied_packets;
 use crate::fault::CellFault;
 use crate::log::{Answer, Kept, LogEntry, Receipt};
 use crate::opening::{Opening, opening_of};
-use crate::writing::{make_room, written};
+use crate::writing::written;
 use std::alloc::{AllocError, Global};
 use std::marker::Model;
 use x12_core::{Ask, Core, Packet, Site};
@@ -62,13 +63,6 @@ impl<R: Records, H: HubRecords> Model for NodeCell<R, H> {
       answers = core_answers c.core;
       failures = core_failures c.core;
     }) };
-}
-
-/// Whether a stamp may follow the last one.
-fn may_follow(last: u64, stamp: u64) -> bool
-    ensures { result ≡ stamp_may_follow last stamp }
-{
-    last < stamp && stamp < u64::MAX
 }
 
 /// Copies of the packets of an entry; none where memory is missing.
@@ -139,17 +133,29 @@ impl<R: Records, H: HubRecords> NodeCell<R, H> {
         ensures unchanged { IfErr result (λ f. StaysSo self.old self.new
             × CellWasCounted f self.old.failures self.new.failures) }
     {
-        if !self.core.suits(self.site.node, &ask) {
-            return Err(CellFault::WrongKind);
-        }
-        let count = self.core.bound(&ask);
-        let room = make_room(self.alloc, &ask, count)?;
-        self.log.reserve(1)?;
-        if !may_follow(self.last, stamp) {
-            return Err(CellFault::WentBack);
-        }
-        let did = self.core.apply(self.alloc, self.site, &ask)?;
-        let (entry, receipt, answer) = written(self.site.node, stamp, ask, did, count, room);
+        let room = match ready(self.alloc, self.site.node, &self.core, &mut self.log, &ask) {
+            Ok(room) => room,
+            Err(fault) => {
+                drop(ask);
+                return Err(fault);
+            }
+        };
+        let did = match step(
+            self.alloc,
+            self.site,
+            &mut self.core,
+            self.last,
+            stamp,
+            &ask,
+        ) {
+            Ok(did) => did,
+            Err(fault) => {
+                drop(room);
+                drop(ask);
+                return Err(fault);
+            }
+        };
+        let (entry, receipt, answer) = written(self.site.node, stamp, ask, did, room);
         let copies = copies(self.alloc, &entry);
         self.log.push_reserved(entry);
         self.last = stamp;

@@ -3,6 +3,7 @@
 #![tactic(auto)]
 
 mod actions;
+mod asking;
 mod cell;
 mod cells;
 mod checking;

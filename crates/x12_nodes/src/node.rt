@@ -1,6 +1,6 @@
 //! A node behind its lock.
 
-ghost use Rattle.std.specs.Prelude.{◌≡◌, ◌<◌, ◌∷◌, ◌++◌, [], ℕ, map, IfOk, IsTrue, OnErr};
+ghost use Rattle.std.specs.Prelude.{◌≡◌, ◌<◌, ◌∷◌, ◌++◌, [], ℕ, map, IfOk, IsTrue, OnErr, OnOk};
 ghost use Rattle.std.specs.Prelude.{vec_len, vec_capacity};
 ghost use Rattle.x12_core.specs.Core.{core_answers};
 ghost use Rattle.x12_core.specs.View.{ask_view};
@@ -70,6 +70,30 @@ fn keep(receipts: &mut Vec<Receipt>, number: u16, receipt: Receipt)
     receipts.push_reserved(of_node(number, receipt));
 }
 
+/// A stamp of the wire for a call that a cell may be asked, and room for its receipt.
+fn admitted<W: Wait, R: Records, H: HubRecords>(
+    rt: &W,
+    cell: &NodeCell<R, H>,
+    number: u16,
+    wire: &Wire,
+    receipts: &mut Vec<Receipt>,
+    ask: &Ask,
+) -> Result<u64, CallFault>
+    ensures unchanged { receipts.new.items ≡ receipts.old.items }
+    ensures room { OnOk result (vec_len receipts.new < vec_capacity receipts.new) }
+{
+    if !cell.suits(ask) {
+        return Err(CallFault::WrongKind);
+    }
+    if !wire.has_mailbox(ask) {
+        return Err(CallFault::WrongKind);
+    }
+    let stamp = wire.stamp(rt)?;
+    wire.admit(rt, number, ask)?;
+    receipts.reserve(1)?;
+    Ok(stamp)
+}
+
 /// Asks a cell, under a stamp of the wire, and puts what it sends on the wire.
 fn ask_cell<W: Wait, R: Records, H: HubRecords>(
     rt: &W,
@@ -88,15 +112,13 @@ fn ask_cell<W: Wait, R: Records, H: HubRecords>(
         } ∷ [])) }
     ensures unchanged { OnErr result (receipts.new.items ≡ receipts.old.items) }
 {
-    if !cell.suits(&ask) {
-        return Err(CallFault::WrongKind);
-    }
-    if !wire.has_mailbox(&ask) {
-        return Err(CallFault::WrongKind);
-    }
-    let stamp = wire.stamp(rt)?;
-    wire.admit(rt, number, &ask)?;
-    receipts.reserve(1)?;
+    let stamp = match admitted(rt, cell, number, wire, receipts, &ask) {
+        Ok(stamp) => stamp,
+        Err(fault) => {
+            drop(ask);
+            return Err(fault);
+        }
+    };
     let (receipt, answer, packets) = cell.take(stamp, ask)?;
     wire.put(rt, number, stamp, packets);
     keep(receipts, number, receipt);
@@ -169,6 +191,7 @@ impl<R: Records, H: HubRecords> Node<R, H> {
     {
         let mut cell = self.cell.lock(rt);
         if !through.gate.enter(self.number, through.call) {
+            drop(event);
             return Err(GateFault::Gate);
         }
         let answer = ask_cell(rt, &mut cell, self.number, wire, &mut pass.receipts, event)?;

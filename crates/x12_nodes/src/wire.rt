@@ -126,9 +126,11 @@ fn post(sent: &mut Vec<Vec<Posted>>, second: bool, stamp: u64, packets: Vec<Pack
             place,
         };
         let Some(to) = line_of(packet.to, count, second) else {
+            drop(packet);
             continue;
         };
         let Some(line) = sent.get_mut(to) else {
+            drop(packet);
             continue;
         };
         if let Err(_) = line.push(Posted { name, packet }) {

@@ -1,11 +1,11 @@
 //! The entry and the receipt of a call, in room that was made before the core was asked.
 
-ghost use Rattle.std.specs.Prelude.{◌≡◌, ◌≤◌, length, IfOk};
+ghost use Rattle.std.specs.Prelude.{◌≡◌, ◌≤◌, length, map, IfOk};
 ghost use Rattle.x12_core.specs.Sends.{sends_view};
-ghost use Rattle.x12_core.specs.View.{ask_view};
-ghost use Rattle.x12_nodes.specs.Log.{answer_to_sends};
+ghost use Rattle.x12_core.specs.View.{ask_view, packet_view};
+ghost use Rattle.x12_nodes.specs.Log.{answer_to_sends, told_of_packets, Sent};
 ghost use Rattle.x12_nodes.specs.View.{answer_kept, node_answer_view, log_entry_view, packets_kept};
-ghost use Rattle.x12_nodes.specs.View.{receipt_view};
+ghost use Rattle.x12_nodes.specs.View.{receipt_view, told_kind_view};
 ghost use Rattle.x12_nodes.specs.Writing.{answer_of_core, entry_of, sends_of_core};
 ghost use Rattle.x12_nodes.specs.Writing.{HasRoomFor, IsEnoughFor};
 
@@ -18,6 +18,7 @@ use x12_core::{Answer as CoreAnswer, Ask, Kind, Packet, Sends};
 /// Room for what is kept of a call, and for what is told of it twice.
 #[derive(Drop)]
 pub(crate) struct Room {
+    count: usize,
     packets: Vec<Packet>,
     told: Vec<(u16, Kind)>,
     again: Vec<(u16, Kind)>,
@@ -26,17 +27,42 @@ pub(crate) struct Room {
 
 /// Room for so many packets, and a copy of what is asked.
 pub(crate) fn make_room(alloc: Global, ask: &Ask, count: usize) -> Result<Room, AllocError>
-    ensures packets { IfOk result (λ r. HasRoomFor count r.packets) }
-    ensures told { IfOk result (λ r. HasRoomFor count r.told) }
-    ensures again { IfOk result (λ r. HasRoomFor count r.again) }
+    ensures count { IfOk result (λ r. r.count ≡ count) }
+    ensures packets { IfOk result (λ r. HasRoomFor r.count r.packets) }
+    ensures told { IfOk result (λ r. HasRoomFor r.count r.told) }
+    ensures again { IfOk result (λ r. HasRoomFor r.count r.again) }
     ensures event { IfOk result (λ r. ask_view r.event ≡ ask_view ask.now) }
 {
     Ok(Room {
+        count,
         packets: Vec::with_capacity(alloc, count)?,
         told: Vec::with_capacity(alloc, count)?,
         again: Vec::with_capacity(alloc, count)?,
         event: copied_ask(alloc, ask)?,
     })
+}
+
+/// What is kept of packets that were sent, and what is told of them twice, as the answer.
+fn as_sent(
+    icn: Option<u32>,
+    packets: Vec<Packet>,
+    told: Vec<(u16, Kind)>,
+    again: Vec<(u16, Kind)>,
+) -> (Kept, Answer, Answer)
+    ensures packets { packets_kept result.0 ≡ map packet_view packets.items }
+    ensures kept { answer_kept result.0
+        ≡ Sent icn (told_of_packets (map packet_view packets.items)) }
+    ensures told { node_answer_view result.1 ≡ Sent icn (map told_kind_view told.items) }
+    ensures again { node_answer_view result.2 ≡ Sent icn (map told_kind_view again.items) }
+{
+    (
+        Kept::Sent { icn, packets },
+        Answer::Sent { icn, packets: told },
+        Answer::Sent {
+            icn,
+            packets: again,
+        },
+    )
 }
 
 /// What is kept of what was sent, and the answer twice; of more packets than there is room for,
@@ -60,30 +86,14 @@ fn sent(
 {
     let (mut packets, mut told, mut again) = (packets, told, again);
     if sends.count() > count {
-        return (
-            Kept::Sent { icn: None, packets },
-            Answer::Sent {
-                icn: None,
-                packets: told,
-            },
-            Answer::Sent {
-                icn: None,
-                packets: again,
-            },
-        );
+        drop(sends);
+        return as_sent(None, packets, told, again);
     }
     pour(sends, &mut packets);
     tell(&packets, &mut told);
     tell(&packets, &mut again);
     let icn = submitted(ask, &packets);
-    (
-        Kept::Sent { icn, packets },
-        Answer::Sent { icn, packets: told },
-        Answer::Sent {
-            icn,
-            packets: again,
-        },
-    )
+    as_sent(icn, packets, told, again)
 }
 
 /// What is kept of what a core did, and the answer twice.
@@ -116,14 +126,13 @@ pub(crate) fn written(
     stamp: u64,
     ask: Ask,
     did: CoreAnswer,
-    count: usize,
     room: Room,
 ) -> (LogEntry, Receipt, Answer)
-    requires packets { HasRoomFor count room.packets }
-    requires told { HasRoomFor count room.told }
-    requires again { HasRoomFor count room.again }
+    requires packets { HasRoomFor room.count room.packets }
+    requires told { HasRoomFor room.count room.told }
+    requires again { HasRoomFor room.count room.again }
     requires event { ask_view room.event ≡ ask_view ask }
-    ensures entry { IsEnoughFor count did →
+    ensures entry { IsEnoughFor room.count did →
         log_entry_view result.0 ≡ entry_of stamp (ask_view ask) did }
     ensures stamp { result.0.stamp ≡ stamp }
     ensures told { node_answer_view result.2 ≡ (log_entry_view result.0).answer }
@@ -135,6 +144,7 @@ pub(crate) fn written(
     } }
 {
     let Room {
+        count,
         packets,
         told,
         again,
