@@ -29,6 +29,7 @@ LEFT = {"unchanged", "back", "same", "front", "crash", "disk", "answered", "neve
         "asks_none", "unsent", "unsettled", "undrafted", "unnamed", "unkept", "unsure", "reserved", "survives", "mode", "hub", "lost", "err"}
 # Where no clause says when: what shows it.
 SHOWN = {
+    "command_table": "`checks/cases.sh` and `checks/refused_memory.sh`",
     "x12_inspect": "`checks/van.sh`",
     "x12_segments": "`checks/van.sh`",
     "x12_sent": "`checks/van.sh`",

@@ -4,30 +4,25 @@
 mod command;
 mod helping;
 mod records;
+mod words;
 
-use crate::command::command_line;
+use crate::command::parsed;
 use crate::records::run_in_files;
-use clap::error::ErrorKind;
-use clap::{ArgMatches, Error};
-use std::env;
+use clap::ArgMatches;
+use command_table::{Ending, Fault, Parsed, process_words};
+use std::io::ErrorKind;
 use std::process::ExitCode;
 use x12_mailbox::{Asked, Form, Stop, misuse, status_of};
 
-/// The words of the command line.
-fn arguments(rt: &HostRuntime) -> Result<Vec<String>, Stop> {
-    match env::args(rt) {
-        Ok(words) => Ok(words.collect(rt.alloc())?),
-        Err(_) => Err(misuse(rt, &["an argument isn't UTF-8"])),
-    }
-}
-
-/// Prints help, or what is wrong with the command line.
-fn unparsed(rt: &HostRuntime, error: &Error) -> Result<u8, Stop> {
-    error.print(rt)?;
-    match error.kind() {
-        ErrorKind::OutOfMemory => Err(Stop::Memory),
-        ErrorKind::DisplayHelp | ErrorKind::DisplayVersion => Ok(0),
-        _ => Ok(2),
+/// Why the program ends, where its words can't be read or nobody takes what it says of them.
+fn stop_of(rt: &HostRuntime, fault: Fault) -> Stop {
+    match fault {
+        Fault::Memory(_) => Stop::Memory,
+        Fault::System(error) => match error.kind() {
+            ErrorKind::InvalidData => misuse(rt, &["an argument isn't UTF-8"]),
+            ErrorKind::OutOfMemory => Stop::Memory,
+            _ => Stop::Output,
+        },
     }
 }
 
@@ -72,17 +67,29 @@ fn run_found(rt: &HostRuntime, name: &str, found: &ArgMatches<'_>) -> Result<u8,
     run_in_files(rt, name, &asked)
 }
 
-/// Runs the command that the command line names.
-fn run(rt: &HostRuntime) -> Result<u8, Stop> {
-    let words = arguments(rt)?;
-    let van = command_line(rt.alloc())?;
-    let matches = match van.try_get_matches_from(words.as_slice()) {
-        Ok(matches) => matches,
-        Err(error) => return unparsed(rt, &error),
-    };
-    match matches.subcommand() {
+/// Runs the command that was found.
+fn run_parsed(rt: &HostRuntime, found: &ArgMatches<'_>) -> Result<u8, Stop> {
+    match found.subcommand() {
         Some((name, found)) => run_found(rt, name, found),
         None => Ok(2),
+    }
+}
+
+/// Runs the command that these words name.
+fn run_words(rt: &HostRuntime, words: &[String]) -> Result<u8, Stop> {
+    match parsed(rt, words) {
+        Ok(Parsed::Found(found)) => run_parsed(rt, &found),
+        Ok(Parsed::Ended(Ending::Memory)) => Err(Stop::Memory),
+        Ok(Parsed::Ended(ending)) => Ok(ending.status()),
+        Err(fault) => Err(stop_of(rt, fault)),
+    }
+}
+
+/// Runs the command that the command line names.
+fn run(rt: &HostRuntime) -> Result<u8, Stop> {
+    match process_words(rt) {
+        Ok(words) => run_words(rt, &words),
+        Err(fault) => Err(stop_of(rt, fault)),
     }
 }
 

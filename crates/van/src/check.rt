@@ -2,7 +2,8 @@
 
 use crate::{color, files, parties};
 use anyhow::Result;
-use clap::{Arg, ArgAction, ArgMatches, Command};
+use clap::ArgMatches;
+use command_table::{Kind, Row, Word};
 use std::alloc::{AllocError, Global};
 use std::process::ExitCode;
 use x12_answering::read_pair;
@@ -25,43 +26,44 @@ Exit status:
   1  something isn't, or an input can't be read
   2  the command line is wrong";
 
+/// The words of the subcommand.
+static WORDS: [Word; 6] = [
+    Word {
+        kind: Kind::Wanted,
+        name: "me",
+        value: "QQID",
+        help: "Who receives, or with --as-sender sends: the qualifier, then the identifier, as ZZBETA",
+    },
+    Word {
+        kind: Kind::Flag,
+        name: "as-sender",
+        value: "",
+        help: "Says instead what the station --me would refuse to submit",
+    },
+    files::JSON,
+    Word {
+        kind: Kind::Flag,
+        name: "csv",
+        value: "",
+        help: "Writes one line of CSV for each finding, behind a line with the names of the columns",
+    },
+    color::COLOR,
+    Word {
+        kind: Kind::Many,
+        name: "words",
+        value: "PAIR|FILE",
+        help: "Five capitals or digits, as PO850, are GS01 and ST01 of what is taken; all else is a file, - standard input",
+    },
+];
+
 /// The subcommand's part of the command line.
-pub fn command<'a>(alloc: Global) -> Result<Command<'a>, AllocError> {
-    let me = Arg::new(alloc, "me")
-        .long("me")
-        .value_name("QQID")
-        .help(
-            "Who receives, or with --as-sender sends: the qualifier, then the identifier, as ZZBETA",
-        )
-        .required(true)
-        .allow_hyphen_values(true)
-        .action(ArgAction::Set);
-    let as_sender = Arg::new(alloc, "as-sender")
-        .long("as-sender")
-        .help("Says instead what the station --me would refuse to submit")
-        .action(ArgAction::SetTrue);
-    let csv = Arg::new(alloc, "csv")
-        .long("csv")
-        .help(
-            "Writes one line of CSV for each finding, behind a line with the names of the columns",
-        )
-        .action(ArgAction::SetTrue);
-    let words = Arg::new(alloc, "words")
-        .value_name("PAIR|FILE")
-        .help(
-            "Five capitals or digits, as PO850, are GS01 and ST01 of what is taken; all else is a file, - standard input",
-        )
-        .num_args(0..)
-        .action(ArgAction::Append);
-    Command::new(alloc, "check")
-        .about(ABOUT)
-        .after_help(MORE)
-        .arg(me)?
-        .arg(as_sender)?
-        .arg(files::json_option(alloc))?
-        .arg(csv)?
-        .arg(color::option(alloc))?
-        .arg(words)
+pub(crate) fn row() -> Row {
+    Row {
+        name: "check",
+        about: ABOUT,
+        more: MORE,
+        words: &WORDS,
+    }
 }
 
 /// The words that are no pairs.

@@ -1,25 +1,22 @@
 //! Whether words are coloured: on a terminal, unless the command line or the environment has it
 //! otherwise.
 
-use clap::{Arg, ArgAction, ArgMatches};
-use std::alloc::Global;
+use clap::ArgMatches;
+use command_table::{Kind, Word};
 use std::env;
 use std::io::IsTerminal;
 use x12_inspect::Look;
 
-/// What `--color` may be.
-const WHEN: [&str; 3] = ["auto", "always", "never"];
-
 /// The option that says when words are coloured.
-pub fn option<'a>(alloc: Global) -> Arg<'a> {
-    Arg::new(alloc, "color")
-        .long("color")
-        .value_name("WHEN")
-        .help("Colours words: auto (on a terminal, where NO_COLOR is empty), always or never")
-        .value_parser(WHEN.as_slice())
-        .default_value("auto")
-        .action(ArgAction::Set)
-}
+pub(crate) const COLOR: Word = Word {
+    kind: Kind::Choice {
+        of: &["auto", "always", "never"],
+        default: "auto",
+    },
+    name: "color",
+    value: "WHEN",
+    help: "Colours words: auto (on a terminal, where NO_COLOR is empty), always or never",
+};
 
 /// Whether the environment asks for words without colours.
 fn is_unwanted(rt: &HostRuntime) -> bool {

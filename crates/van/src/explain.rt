@@ -2,8 +2,8 @@
 
 use crate::{color, files, parties};
 use anyhow::Result;
-use clap::{Arg, ArgAction, ArgMatches, Command};
-use std::alloc::{AllocError, Global};
+use clap::ArgMatches;
+use command_table::{Kind, Row, Word};
 use std::process::ExitCode;
 use x12_envelopes::Party;
 use x12_inspect::{Explained, Outcome, Style, read_sent, run_explain, run_pending};
@@ -27,34 +27,39 @@ Exit status:
   1  one can't, or an input can't be read, or what was sent couldn't be submitted
   2  the command line is wrong, or the code is unknown";
 
+/// The words of the subcommand.
+static WORDS: [Word; 6] = [
+    Word {
+        kind: Kind::Value,
+        name: "code",
+        value: "CODE",
+        help: "A code, as AK403/5, TA1/023, H2 or S11, or a family of codes, as AK403",
+    },
+    Word {
+        kind: Kind::Value,
+        name: "of",
+        value: "SENT",
+        help: "The file that was sent: shows what is spoken of, which sets close, and which stay pending",
+    },
+    Word {
+        kind: Kind::Value,
+        name: "hub",
+        value: "QQID",
+        help: "With --of: a hub that may refuse the sender's interchanges too, as ZZHUB",
+    },
+    files::JSON,
+    color::COLOR,
+    files::FILES,
+];
+
 /// The subcommand's part of the command line.
-pub fn command<'a>(alloc: Global) -> Result<Command<'a>, AllocError> {
-    let code = Arg::new(alloc, "code")
-        .long("code")
-        .value_name("CODE")
-        .help("A code, as AK403/5, TA1/023, H2 or S11, or a family of codes, as AK403")
-        .action(ArgAction::Set);
-    let of = Arg::new(alloc, "of")
-        .long("of")
-        .value_name("SENT")
-        .help(
-            "The file that was sent: shows what is spoken of, which sets close, and which stay pending",
-        )
-        .action(ArgAction::Set);
-    let hub = Arg::new(alloc, "hub")
-        .long("hub")
-        .value_name("QQID")
-        .help("With --of: a hub that may refuse the sender's interchanges too, as ZZHUB")
-        .action(ArgAction::Set);
-    Command::new(alloc, "explain")
-        .about(ABOUT)
-        .after_help(MORE)
-        .arg(code)?
-        .arg(of)?
-        .arg(hub)?
-        .arg(files::json_option(alloc))?
-        .arg(color::option(alloc))?
-        .arg(files::argument(alloc))
+pub(crate) fn row() -> Row {
+    Row {
+        name: "explain",
+        about: ABOUT,
+        more: MORE,
+        words: &WORDS,
+    }
 }
 
 /// Writes a code of a family, what it says, and what to do.

@@ -3,7 +3,8 @@
 ghost use Rattle.std.specs.Prelude.{◌≡◌, ◌≤◌, IfOk, IfSome, vec_len};
 
 use anyhow::Result;
-use clap::{Arg, ArgAction, ArgMatches};
+use clap::ArgMatches;
+use command_table::{Kind, Word};
 use std::alloc::{AllocError, Global};
 use std::fs::File;
 use std::io::Read;
@@ -17,14 +18,21 @@ const MOST_BYTES: u64 = 16_777_216;
 /// The first bytes of a file that gzip wrote (RFC 1952).
 const GZIP: [u8; 2] = [0x1F, 0x8B];
 
-/// The argument that names the files.
-pub fn argument<'a>(alloc: Global) -> Arg<'a> {
-    Arg::new(alloc, "files")
-        .value_name("FILE")
-        .help("A file to read, or - for standard input, which is read where none is named")
-        .num_args(0..)
-        .action(ArgAction::Append)
-}
+/// The words that name the files.
+pub(crate) const FILES: Word = Word {
+    kind: Kind::Many,
+    name: "files",
+    value: "FILE",
+    help: "A file to read, or - for standard input, which is read where none is named",
+};
+
+/// The option that asks for JSON.
+pub(crate) const JSON: Word = Word {
+    kind: Kind::Flag,
+    name: "json",
+    value: "",
+    help: "Writes one JSON object a line for each interchange",
+};
 
 /// The files named, or standard input where none is.
 pub fn named<'a>(alloc: Global, words: &[&'a str]) -> Result<Vec<&'a str>, AllocError> {
@@ -41,14 +49,6 @@ pub fn head(rt: &HostRuntime, form: Form, files: &[&str], file: &str) -> Result<
         println!(rt; "{file}:")?;
     }
     Ok(())
-}
-
-/// The option that asks for JSON.
-pub fn json_option<'a>(alloc: Global) -> Arg<'a> {
-    Arg::new(alloc, "json")
-        .long("json")
-        .help("Writes one JSON object a line for each interchange")
-        .action(ArgAction::SetTrue)
 }
 
 /// The form that is asked for.

@@ -9,9 +9,8 @@ mod parties;
 mod show;
 
 use anyhow::Result;
-use clap::Command;
-use clap::error::ErrorKind;
-use std::env;
+use clap::ArgMatches;
+use command_table::{Parsed, Program, parse, process_words};
 use std::process::ExitCode;
 use x12_answering::VERSION;
 
@@ -22,32 +21,33 @@ Mailboxes in folders:
   van init, enrol, agree, submit, run, status, log, postings, reconcile, verify
 are built where one is first used; van init --help, and so on, says more.";
 
-fn main(rt: HostRuntime) -> Result<ExitCode> {
-    let alloc = rt.alloc();
-    let words: Vec<String> = env::args(&rt)?.collect(alloc)?;
-    let van = Command::new(alloc, "van")
-        .version(VERSION)
-        .about(ABOUT)
-        .after_help(MORE)
-        .subcommand_required(true)
-        .subcommand(check::command(alloc)?)?
-        .subcommand(show::command(alloc)?)?
-        .subcommand(explain::command(alloc)?)?;
-    let matches = match van.try_get_matches_from(words.as_slice()) {
-        Ok(matches) => matches,
-        Err(error) => {
-            error.print(&rt)?;
-            let status = match error.kind() {
-                ErrorKind::OutOfMemory => 1,
-                _ => error.exit_code() as u8,
-            };
-            return Ok(ExitCode::from(status));
-        }
-    };
-    match matches.subcommand() {
-        Some(("check", found)) => check::run(&rt, found),
-        Some(("show", found)) => show::run(&rt, found),
-        Some(("explain", found)) => explain::run(&rt, found),
+/// Runs the subcommand that was found.
+fn run_found(rt: &HostRuntime, found: &ArgMatches<'_>) -> Result<ExitCode> {
+    match found.subcommand() {
+        Some(("check", found)) => check::run(rt, found),
+        Some(("show", found)) => show::run(rt, found),
+        Some(("explain", found)) => explain::run(rt, found),
         _ => Ok(ExitCode::from(2)),
     }
+}
+
+/// Runs the subcommand that these words name.
+fn run(rt: &HostRuntime, words: &[String]) -> Result<ExitCode> {
+    let rows = [check::row(), show::row(), explain::row()];
+    let van = Program {
+        name: "van",
+        version: VERSION,
+        about: ABOUT,
+        more: Some(MORE),
+        rows: &rows,
+    };
+    match parse(rt, &van, words)? {
+        Parsed::Found(found) => run_found(rt, &found),
+        Parsed::Ended(ending) => Ok(ExitCode::from(ending.status())),
+    }
+}
+
+fn main(rt: HostRuntime) -> Result<ExitCode> {
+    let words = process_words(&rt)?;
+    run(&rt, &words)
 }

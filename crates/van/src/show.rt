@@ -2,8 +2,8 @@
 
 use crate::{color, files};
 use anyhow::Result;
-use clap::{Arg, ArgAction, ArgMatches, Command};
-use std::alloc::{AllocError, Global};
+use clap::ArgMatches;
+use command_table::{Kind, Row, Word};
 use std::process::ExitCode;
 use x12_inspect::{Outcome, Style, run_show};
 use x12_segments::{Layout, run_layout};
@@ -24,24 +24,33 @@ Exit status:
   1  one hasn't, or an input can't be read
   2  the command line is wrong";
 
-/// An option that is there or not.
-fn flag<'a>(alloc: Global, name: &'a str, help: &'a str) -> Arg<'a> {
-    Arg::new(alloc, name)
-        .long(name)
-        .help(help)
-        .action(ArgAction::SetTrue)
-}
+/// The words of the subcommand.
+static WORDS: [Word; 5] = [
+    Word {
+        kind: Kind::Flag,
+        name: "plain",
+        value: "",
+        help: "Writes the segments alone, one a line",
+    },
+    Word {
+        kind: Kind::Flag,
+        name: "join",
+        value: "",
+        help: "Takes such lines back into one line",
+    },
+    files::JSON,
+    color::COLOR,
+    files::FILES,
+];
 
 /// The subcommand's part of the command line.
-pub fn command<'a>(alloc: Global) -> Result<Command<'a>, AllocError> {
-    Command::new(alloc, "show")
-        .about(ABOUT)
-        .after_help(MORE)
-        .arg(flag(alloc, "plain", "Writes the segments alone, one a line"))?
-        .arg(flag(alloc, "join", "Takes such lines back into one line"))?
-        .arg(files::json_option(alloc))?
-        .arg(color::option(alloc))?
-        .arg(files::argument(alloc))
+pub(crate) fn row() -> Row {
+    Row {
+        name: "show",
+        about: ABOUT,
+        more: MORE,
+        words: &WORDS,
+    }
 }
 
 /// The layout that is asked for, if one is.

@@ -2,8 +2,8 @@
 //! interchanges.
 
 use anyhow::Result;
-use clap::{Arg, ArgAction, ArgMatches, Command};
-use std::alloc::{AllocError, Global};
+use clap::ArgMatches;
+use command_table::{Kind, Row, Word};
 use std::process::ExitCode;
 use x12_answering::{OptionFault, OptionWords, RunStatus, read_options, run_answer};
 
@@ -29,50 +29,54 @@ Exit status:
   1  an interchange couldn't be answered, or the run stopped
   2  the command line is wrong";
 
-/// An option that is wanted, with one value of any form.
-fn wanted<'a>(alloc: Global, name: &'a str, value: &'a str, help: &'a str) -> Arg<'a> {
-    Arg::new(alloc, name)
-        .long(name)
-        .value_name(value)
-        .help(help)
-        .required(true)
-        .allow_hyphen_values(true)
-        .action(ArgAction::Set)
-}
+/// The words of the subcommand.
+static WORDS: [Word; 6] = [
+    Word {
+        kind: Kind::Wanted,
+        name: "me",
+        value: "QQID",
+        help: "Who answers: the qualifier, then the identifier, as ZZBETA",
+    },
+    Word {
+        kind: Kind::Wanted,
+        name: "icn",
+        value: "N",
+        help: "The first interchange control number, 1 to 999999999",
+    },
+    Word {
+        kind: Kind::Wanted,
+        name: "gcn",
+        value: "N",
+        help: "The first group control number, 1 to 999999999",
+    },
+    Word {
+        kind: Kind::Wanted,
+        name: "date",
+        value: "CCYYMMDD",
+        help: "The date of the replies",
+    },
+    Word {
+        kind: Kind::Wanted,
+        name: "time",
+        value: "HHMM",
+        help: "The time of day of the replies",
+    },
+    Word {
+        kind: Kind::Many,
+        name: "pairs",
+        value: "PAIR",
+        help: "GS01 then ST01 of what is taken from every partner, as PO850; no other group or set is",
+    },
+];
 
 /// The subcommand's part of the command line.
-pub fn command<'a>(alloc: Global) -> Result<Command<'a>, AllocError> {
-    let pairs = Arg::new(alloc, "pairs")
-        .value_name("PAIR")
-        .help(
-            "GS01 then ST01 of what is taken from every partner, as PO850; no other group or set is",
-        )
-        .num_args(0..)
-        .action(ArgAction::Append);
-    Command::new(alloc, "answer")
-        .about(ABOUT)
-        .after_help(MORE)
-        .arg(wanted(
-            alloc,
-            "me",
-            "QQID",
-            "Who answers: the qualifier, then the identifier, as ZZBETA",
-        ))?
-        .arg(wanted(
-            alloc,
-            "icn",
-            "N",
-            "The first interchange control number, 1 to 999999999",
-        ))?
-        .arg(wanted(
-            alloc,
-            "gcn",
-            "N",
-            "The first group control number, 1 to 999999999",
-        ))?
-        .arg(wanted(alloc, "date", "CCYYMMDD", "The date of the replies"))?
-        .arg(wanted(alloc, "time", "HHMM", "The time of day of the replies"))?
-        .arg(pairs)
+pub(crate) fn row() -> Row {
+    Row {
+        name: "answer",
+        about: ABOUT,
+        more: MORE,
+        words: &WORDS,
+    }
 }
 
 /// Runs the subcommand, and gives its exit status.

@@ -3,8 +3,8 @@
 
 use crate::shelf::{Databases, Folder, Shelf};
 use anyhow::Result;
-use clap::{Arg, ArgAction, ArgMatches, Command};
-use std::alloc::{AllocError, Global};
+use clap::ArgMatches;
+use command_table::{Kind, Row, Word};
 use std::fmt::Display;
 use std::io::IsTerminal;
 use std::process::ExitCode;
@@ -42,68 +42,72 @@ Exit status:
      folder isn't empty
   2  the command line is wrong";
 
-/// The options that have a number: each with what it is where it is left out, and what it says.
-const NUMBERS: [(&str, &str, &str); 7] = [
-    ("stations", "2", "How many stations, 2 to 16"),
-    (
-        "hubs",
-        "1",
-        "How many hubs, 1 or 2: with 2, even stations are at HUB2",
-    ),
-    ("orders", "20", "How many orders each submits, 1 to 200"),
-    (
-        "lose",
-        "0",
-        "Each how many-th packet of a link is lost; 0: none",
-    ),
-    ("double", "0", "Each how many-th is put twice; 0: none"),
-    (
-        "hold",
-        "0",
-        "Each how many-th is held until the next one; 0: none",
-    ),
-    (
-        "turns",
-        "100000",
-        "How many turns a node makes at most, 1 to 1000000",
-    ),
+/// The words of the subcommand.
+static WORDS: [Word; 9] = [
+    Word {
+        kind: Kind::Default("2"),
+        name: "stations",
+        value: "N",
+        help: "How many stations, 2 to 16",
+    },
+    Word {
+        kind: Kind::Default("1"),
+        name: "hubs",
+        value: "N",
+        help: "How many hubs, 1 or 2: with 2, even stations are at HUB2",
+    },
+    Word {
+        kind: Kind::Default("20"),
+        name: "orders",
+        value: "N",
+        help: "How many orders each submits, 1 to 200",
+    },
+    Word {
+        kind: Kind::Default("0"),
+        name: "lose",
+        value: "N",
+        help: "Each how many-th packet of a link is lost; 0: none",
+    },
+    Word {
+        kind: Kind::Default("0"),
+        name: "double",
+        value: "N",
+        help: "Each how many-th is put twice; 0: none",
+    },
+    Word {
+        kind: Kind::Default("0"),
+        name: "hold",
+        value: "N",
+        help: "Each how many-th is held until the next one; 0: none",
+    },
+    Word {
+        kind: Kind::Default("100000"),
+        name: "turns",
+        value: "N",
+        help: "How many turns a node makes at most, 1 to 1000000",
+    },
+    Word {
+        kind: Kind::Value,
+        name: "sqlite",
+        value: "FOLDER",
+        help: "Keeps each node's records in a file in this folder, which is made, or is empty",
+    },
+    Word {
+        kind: Kind::Flag,
+        name: "quiet",
+        value: "",
+        help: "Shows no line on a terminal that says how the network stands",
+    },
 ];
 
-/// An option with a number.
-fn number<'a>(alloc: Global, name: &'a str, first: &'a str, help: &'a str) -> Arg<'a> {
-    Arg::new(alloc, name)
-        .long(name)
-        .value_name("N")
-        .help(help)
-        .allow_hyphen_values(true)
-        .action(ArgAction::Set)
-        .default_value(first)
-}
-
-/// The option that names a folder for records.
-fn sqlite<'a>(alloc: Global) -> Arg<'a> {
-    Arg::new(alloc, "sqlite")
-        .long("sqlite")
-        .value_name("FOLDER")
-        .help("Keeps each node's records in a file in this folder, which is made, or is empty")
-        .action(ArgAction::Set)
-}
-
-/// The option that leaves the line on a terminal out.
-fn quiet<'a>(alloc: Global) -> Arg<'a> {
-    Arg::new(alloc, "quiet")
-        .long("quiet")
-        .help("Shows no line on a terminal that says how the network stands")
-        .action(ArgAction::SetTrue)
-}
-
 /// The subcommand's part of the command line.
-pub fn command<'a>(alloc: Global) -> Result<Command<'a>, AllocError> {
-    let mut command = Command::new(alloc, "network").about(ABOUT).after_help(MORE);
-    for (name, first, help) in &NUMBERS {
-        command = command.arg(number(alloc, name, first, help))?;
+pub(crate) fn row() -> Row {
+    Row {
+        name: "network",
+        about: ABOUT,
+        more: MORE,
+        words: &WORDS,
     }
-    command.arg(sqlite(alloc))?.arg(quiet(alloc))
 }
 
 /// The words that give a plan.

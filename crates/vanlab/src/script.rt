@@ -2,8 +2,7 @@
 //! what comes of each line, or the report of the end alone.
 
 use anyhow::Result;
-use clap::Command;
-use std::alloc::Global;
+use command_table::Row;
 use std::process::ExitCode;
 use x12_vanlab::{ScriptStatus, run_script};
 
@@ -68,17 +67,23 @@ Exit status:
   2  the command line is wrong";
 
 /// The part of the command line that prints what comes of each line.
-pub fn script_command<'a>(alloc: Global) -> Command<'a> {
-    Command::new(alloc, "script")
-        .about(SCRIPT)
-        .after_help(SCRIPT_MORE)
+pub(crate) fn script_row() -> Row {
+    Row {
+        name: "script",
+        about: SCRIPT,
+        more: SCRIPT_MORE,
+        words: &[],
+    }
 }
 
 /// The part of the command line that prints the report of the end alone.
-pub fn report_command<'a>(alloc: Global) -> Command<'a> {
-    Command::new(alloc, "report")
-        .about(REPORT)
-        .after_help(REPORT_MORE)
+pub(crate) fn report_row() -> Row {
+    Row {
+        name: "report",
+        about: REPORT,
+        more: REPORT_MORE,
+        words: &[],
+    }
 }
 
 /// Runs the script on standard input, and gives the exit status.

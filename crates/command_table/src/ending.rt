@@ -1,0 +1,24 @@
+//! How a program ends whose command line names no command.
+
+/// How a program ends whose command line names no command.
+#[derive(Clone, Copy)]
+pub enum Ending {
+    /// Help or the version was asked for, and is printed.
+    Shown,
+    /// Memory was missing, as a sentence on standard error says.
+    Memory,
+    /// The words are wrong, as a sentence on standard error says.
+    Wrong,
+}
+
+impl Ending {
+    /// The exit status: 0 where something was shown, 1 where memory was missing, 2 where the words are
+    /// wrong.
+    pub fn status(self) -> u8 {
+        match self {
+            Ending::Shown => 0,
+            Ending::Memory => 1,
+            Ending::Wrong => 2,
+        }
+    }
+}
