@@ -27,19 +27,15 @@ fn open_hub(alloc: Global, name: &Name) -> Result<Hub<MemoryHubRecords>, AllocEr
     }
 }
 
-/// A new hub, and a new second one, where there is to be one.
-fn open_hubs(
+/// A new second hub, where there is to be one.
+fn open_second_hub(
     alloc: Global,
     has_second: bool,
-) -> Result<(Hub<MemoryHubRecords>, Option<Hub<MemoryHubRecords>>), AllocError> {
-    let hub = open_hub(alloc, &hub_name())?;
+) -> Result<Option<Hub<MemoryHubRecords>>, AllocError> {
     if !has_second {
-        return Ok((hub, None));
+        return Ok(None);
     }
-    match open_hub(alloc, &second_hub_name()) {
-        Ok(second) => Ok((hub, Some(second))),
-        Err(error) => Err(error),
-    }
+    Ok(Some(open_hub(alloc, &second_hub_name())?))
 }
 
 /// The hub at which a station is, and the other one, if there is one.
@@ -87,48 +83,25 @@ fn open_all(
     Ok(())
 }
 
-/// New stations, one for each of these members.
-fn open_stations(
-    alloc: Global,
-    members: &[Member],
-    has_second: bool,
-) -> Result<Vec<Station<MemoryRecords>>, AllocError> {
-    let mut stations = Vec::new(alloc);
-    match open_all(alloc, members, has_second, &mut stations) {
-        Ok(()) => Ok(stations),
-        Err(error) => {
-            close(stations);
-            Err(error)
-        }
-    }
-}
-
-/// The network of these hubs and stations.
-fn join(
-    alloc: Global,
-    hub: Hub<MemoryHubRecords>,
-    second: Option<Hub<MemoryHubRecords>>,
-    stations: Vec<Station<MemoryRecords>>,
-) -> Result<Net, AllocError> {
-    match World::new(alloc, hub, second, stations) {
-        Ok(net) => Ok(net),
-        Err((_, _, stations, _)) => {
-            close(stations);
-            Err(AllocError)
-        }
-    }
-}
-
 /// A new network with these stations, and with a second hub, where there is to be one.
 pub(crate) fn new_network(
     alloc: Global,
     members: &[Member],
     has_second: bool,
 ) -> Result<Net, AllocError> {
-    let (hub, second) = open_hubs(alloc, has_second)?;
-    match open_stations(alloc, members, has_second) {
-        Ok(stations) => join(alloc, hub, second, stations),
-        Err(error) => Err(error),
+    let hub = open_hub(alloc, &hub_name())?;
+    let second = open_second_hub(alloc, has_second)?;
+    let mut stations = Vec::new(alloc);
+    if open_all(alloc, members, has_second, &mut stations).is_err() {
+        close(stations);
+        return Err(AllocError);
+    }
+    match World::new(alloc, hub, second, stations) {
+        Ok(net) => Ok(net),
+        Err((_, _, stations, _)) => {
+            close(stations);
+            Err(AllocError)
+        }
     }
 }
 
