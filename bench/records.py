@@ -1,7 +1,7 @@
 #!/usr/bin/env python3
 """Measures records in tables of a file beside the same statements in C over SQLite: bench/records.py [EVENTS].
 
-Builds the program of checks/database_file, proved, over the libraries as they are proved; bench/records/statements, which runs
+Builds what checks/database_file has as a program, proved, over the libraries as they are proved; bench/records/statements, which runs
 the statements alone over the toolchain's SQLite, over a file and in memory, without the look-up in front of an arrival and a
 deposit; and bench/records/main.c with the C compiler over libsqlite3 (with its header). Tells instructions of an event by
 valgrind, without the kernel's, and microseconds of the processor, the kernel's too.
@@ -34,6 +34,7 @@ def build(room):
     crate = Crate(TOP, "database_file", {**listed, "database_file": BELOW + OF_KIT})
     crate.folder, crate.root = f"{room}/database_file", "src/main.rt"
     shutil.copytree(f"{TOP}/checks/database_file", crate.folder)
+    shutil.copyfile(f"{HERE}/records/main.rattle", f"{crate.folder}/src/main.rattle")
     shutil.copytree(f"{HERE}/records/proofs", f"{crate.folder}/proofs")
     for at, _, names in os.walk(crate.folder):
         for name in names:
@@ -85,7 +86,8 @@ def main():
         subprocess.run(["cc", "-O2", "-o", theirs, f"{HERE}/records/main.c", "-lsqlite3"], check=True)
         for kind, (program, first, line) in KINDS.items():
             script = lambda count: "\n".join([first, *map(line, range(1, count + 1))]) + "\n"
-            told = {"ours": measured(lambda _: [ours, program, "new", file], script, events, room)}
+            os.environ["RECORDS"] = f"{program} new {file}"
+            told = {"ours": measured(lambda _: [ours], script, events, room)}
             for at in (file, ":memory:"):
                 for name, its in (("its statements alone", alone), ("C", theirs)):
                     told[name] = measured(lambda count: [its, kind, str(count), at], lambda _: "", events, room)

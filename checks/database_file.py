@@ -1,13 +1,15 @@
 #!/usr/bin/env python3
-"""Database files that the records make, looked at by SQLite itself: builds the program of checks/database_file, runs a
-hub and a station over files by lines of standard input, and holds what each call answered, each row of each table, the
-schema and the questions of docs/records.md. All that is wanted is written by hand, by the standard and that page.
+"""Database files that the records make, looked at by SQLite itself: runs a hub and a station over files by lines of
+standard input, and holds what each call answered, each row of each table, the schema and the questions of
+docs/records.md. All that is wanted is written by hand, by the standard and that page.
 
-usage: database_file.py [PROGRAM]
+usage: database_file.py [TESTS]
 
-The program is built unproved, natively, without LLVM's optimizations, and with tests of each index, sum and `unwrap`
-(checks/tools/unproved.py); it does nothing but call what stands below. So this shows what the calls leave in a file,
-and proves nothing: that each call keeps its contract, the proofs of the crates below show.
+What is run stands in checks/database_file. It is built unproved, natively, without LLVM's optimizations, and with tests
+of each index, sum and `unwrap` (checks/tools/unproved.py); it does nothing but call what stands below. So this shows
+what the calls leave in a file, and proves nothing: that each call keeps its contract, the proofs of the crates below
+show. `checks/tests.py --keep TESTS` builds it with the tests; without a word TESTS is tests in the folder of the gate's
+run, and where there is none it is built alone.
 
 Prints a line for what is wrong, and last 'N passed, M failed'.
 """
@@ -24,6 +26,7 @@ HERE = os.path.dirname(os.path.realpath(__file__))
 TOP = os.path.dirname(HERE)
 sys.path.insert(0, f"{HERE}/tools")
 from crates import Crate, crates_of, text_of
+from tests import modules_in, write_crate
 from unproved import Unbuilt, build_program
 
 BELOW = ["x12_records", "x12_station", "x12_hub", "x12_judge", "x12_envelopes"]
@@ -224,22 +227,30 @@ def columns(text):
 
 
 def build(room):
-    """Builds the program, unproved, from the sources of all below."""
+    """Builds what is run, unproved, from the sources of all below."""
     listed = {it.name: [below.name for below in it.libraries] + it.of_kit[1:] for it in crates_of(TOP)}
     crate = Crate(TOP, "database_file", {**listed, "database_file": BELOW + OF_KIT})
-    crate.folder, crate.root = f"{room}/database_file", "src/main.rt"
-    os.makedirs(f"{crate.folder}/src")
-    for name in os.listdir(f"{HERE}/database_file/src"):
-        shutil.copyfile(f"{HERE}/database_file/src/{name}", f"{crate.folder}/src/{name.removesuffix('.rattle')}.rt")
-    build_program(crate, f"{room}/program")
+    crate.folder = f"{room}/database_file"
+    write_crate(crate.folder, {"database_file": modules_in(f"{HERE}/database_file/src")})
+    build_program(crate, f"{room}/program", is_tests=True)
     return f"{room}/program"
+
+
+# What a test says behind all else where it ended well, and the status of one that failed.
+ENDED, FAILED = "\ntest result: ok\n", 101
+
+
+def command(kind, age, path):
+    """How records are asked for."""
+    how = {"env": {**os.environ, "RECORDS": f"{kind} {age} {path}"}, "text": True}
+    return {"args": [PROGRAM, "database_file::run::records"], **how}
 
 
 def run(words, lines):
     """What the program says of these lines, and how it ends."""
-    ran = subprocess.run([PROGRAM, *words], input="".join(f"{it}\n" for it in lines if it), capture_output=True,
-                         text=True, timeout=600)
-    return ran.stdout, ran.returncode
+    script = "".join(f"{it}\n" for it in lines if it)
+    ran = subprocess.run(**command(*words), input=script, capture_output=True, timeout=600)
+    return ran.stdout.removesuffix(ENDED), ran.returncode
 
 
 def tells(kind, age, path, story, last=()):
@@ -315,7 +326,7 @@ def answers(path, questions, wanted):
 
 def started(age, path):
     """A run over a hub's records that has begun."""
-    return subprocess.Popen([PROGRAM, "hub", age, path], stdin=subprocess.PIPE, stdout=subprocess.PIPE, text=True)
+    return subprocess.Popen(**command("hub", age, path), stdin=subprocess.PIPE, stdout=subprocess.PIPE)
 
 
 def sees_lock(path):
@@ -332,8 +343,8 @@ def sees_lock(path):
             conn.close()
         second = run(["hub", "old", path], [])
         said, _ = first.communicate("")
-        is_ended = first.returncode == 0 and said == "open, new false\nfailures 0\n"
-        return is_open and is_kept_out and second == ("", 1) and is_ended
+        is_ended = first.returncode == 0 and said == f"open, new false\nfailures 0\n{ENDED}"
+        return is_open and is_kept_out and second == ("", FAILED) and is_ended
 
 
 def opens_with_sqlite(path):
@@ -363,8 +374,8 @@ def refuses(kind, path, sql):
         count = conn.execute(sql).rowcount
         conn.commit()
         conn.close()
-        ran = subprocess.run([PROGRAM, kind, "old", changed], input="", capture_output=True, text=True, timeout=600)
-        return count == 1 and ran.returncode == 1 and OUT_OF_FORM in ran.stderr
+        ran = subprocess.run(**command(kind, "old", changed), input="", capture_output=True, timeout=600)
+        return count == 1 and ran.returncode == FAILED and OUT_OF_FORM in ran.stderr
 
 
 def survives_kills(path):
@@ -405,15 +416,15 @@ def shown(room, page):
     yield "a hub goes on over SQLite's copies", all(tells("hub", "old", it, SEEN_HUB) for it in copies_of_sqlite(hub))
     for sql, what in CHANGED_HUB.items():
         yield f"a hub doesn't take over records in which {what}: {sql}", refuses("hub", hub, sql)
-    yield "a hub's records aren't made where tables are", run(["hub", "new", hub], [])[1] == 1
+    yield "a hub's records aren't made where tables are", run(["hub", "new", hub], [])[1] == FAILED
     yield "a killed run leaves what it answered", survives_kills(f"{room}/killed.db")
     yield "a station over a new file answers", tells("station", "new", station, NEW_STATION)
     yield "SQLite finds no fault in a station's file and its log", is_sound(station)
     yield "the schema of a station's file is that of the page", has_schema(station, of_station)
     yield "a station's calls made these rows", has_rows(station, STATION_ROWS)
     yield "the page's questions to a station", answers(station, questions[:len(STATION_ANSWERS)], STATION_ANSWERS)
-    yield "a hub's records aren't taken over from a station's file", run(["hub", "old", station], [])[1] == 1
-    yield "a station isn't opened over another's file", run(["station", "other", station], [])[1] == 1
+    yield "a hub's records aren't taken over from a station's file", run(["hub", "old", station], [])[1] == FAILED
+    yield "a station isn't opened over another's file", run(["station", "other", station], [])[1] == FAILED
     for sql, what in CHANGED_STATION.items():
         yield f"a station doesn't take over records in which {what}: {sql}", refuses("station", station, sql)
     yield "a station goes on over its file", tells("station", "old", station, OLD_STATION)
@@ -432,7 +443,8 @@ def main():
 if __name__ == "__main__":
     with tempfile.TemporaryDirectory(prefix="files-") as ROOM:
         try:
-            PROGRAM = sys.argv[1] if len(sys.argv) > 1 else build(ROOM)
+            KEPT = sys.argv[1] if len(sys.argv) > 1 else f"{os.environ.get('GATE_RUN')}/tests"
+            PROGRAM = KEPT if sys.argv[1:] or os.path.exists(KEPT) else build(ROOM)
         except Unbuilt as why:
             print(f"{why}\n0 passed, 1 failed")
             sys.exit(1)

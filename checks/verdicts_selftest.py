@@ -3,7 +3,8 @@
 
 A harmless edit has to be told, also one that stands in a caller of a function which is refused in the same check, and
 one that stands in a copy of its function, behind another edit of it. A
-constant goes with the bodies that read it. What changes more than bodies is tried alone. A file that can't be applied,
+constant goes with the bodies that read it. What changes more than bodies is tried alone; and a definition first where a
+clause names it. A file that can't be applied,
 or is none of the form, is told by its name.
 
 The sum of a crate stays where a body, an answer or a comment below it is another, and changes where a clause, a type,
@@ -66,18 +67,17 @@ pub struct Count {
     pub number: u8,
 }
 
-/// What has a next one.
-pub trait Follows {
-    /// The number of the next one.
-    fn following(&self) -> u8;
+/// What has a first one.
+pub trait Begins {
+    /// The number of the first one.
+    fn beginning(&self) -> u8;
 }
 
-impl Follows for Count {
-    fn following(&self) -> u8
-        requires { self.now.number < 9 }
-        ensures { result ≡ self.now.number + 1 }
+impl Begins for Count {
+    fn beginning(&self) -> u8
+        ensures { result ≡ 1 }
     {
-        add_one(self.number)
+        add_one(0)
     }
 }
 
@@ -133,8 +133,14 @@ EDITS = {
     "gives_two_in_a_copy": ("one + 2", "one + 1", "refused, "),
     "stands_nowhere": ("n + 5", "n", "BAD EDIT"),
     # These two stand in one function, which can't be copied: so the second, which can't be read, spoils no other verdict.
-    "follows_with_itself": ("add_one(self.number)", "self.number", "refused, "),
-    "wants_an_operand": ("add_one(self.number)", "add_one(self.number) +", "BAD EDIT"),
+    "begins_with_none": ("add_one(0)", "0", "refused, "),
+    "wants_an_operand": ("add_one(0)", "add_one(0) +", "BAD EDIT"),
+}
+
+# and of the definition that a function's clause names, so too
+DEFINED = {
+    "is_three_too": ("three = 3", "three = 2 + 1", "NOT REFUSED"),
+    "is_four": ("three = 3", "three = 4", "refused alone, where it is named: ./proofs/ThreeLemmas.antt"),
 }
 
 
@@ -154,7 +160,7 @@ IS_NONE = "file: src/lib.rt\nold:     9\nnew:     0 + 9\n"
 # What the answer of one of its functions stands on.
 OF_THREE = {
     "specs/Lib.antt": "pub mod Three\n",
-    "specs/Three.antt": "use Rattle.std.specs.Prelude.{ℕ}\n\n-- Three.\nunfoldable pub three : ℕ\nthree = 3\n",
+    "specs/Three.antt": "use Rattle.std.specs.Prelude.{ℕ, ◌+◌}\n\n-- Three.\nunfoldable pub three : ℕ\nthree = 3\n",
     "proofs/Lib.antt": "mod ThreeLemmas\n",
     "proofs/ThreeLemmas.antt": """use Rattle.std.proofs.Common.{◌≡◌, refl}
 use Rattle.sample.specs.Three.{three}
@@ -188,7 +194,7 @@ CHANGES = {
     "a definition": ("specs/Number.antt", "= 3", "= 4", True),
     "a lemma": ("proofs/Lemmas.antt", "refl", "search", True),
 }
-COUNT = len(EDITS) + 1 + len(CHANGES) + 2
+COUNT = len(EDITS) + len(DEFINED) + 1 + len(CHANGES) + 2
 
 
 def write(files):
@@ -206,11 +212,12 @@ def of_edits(top):
     sample = f"{top}/crates/sample"
     files = {f"{top}/crates.txt": "sample:\n", f"{sample}/src/lib.rt": CODE, f"{sample}/must-fail/notes.txt": ""}
     files |= {f"{sample}/{path}": text for path, text in OF_THREE.items()}
-    for name, (old, new, _) in EDITS.items():
-        files[f"{sample}/must-fail/{name}.edit"] = f"file: src/lib.rt\nold: {old}\nnew: {new}\n"
+    for path, edits in (("src/lib.rt", EDITS), ("specs/Three.antt", DEFINED)):
+        for name, (old, new, _) in edits.items():
+            files[f"{sample}/must-fail/{name}.edit"] = f"file: {path}\nold: {old}\nnew: {new}\n"
     write(files)
     tried = wrong_bodies.try_all(crates_of(top))
-    wanted = {f"sample/{name}.edit": begins for name, (_, _, begins) in EDITS.items()} | {"sample/notes.txt": "no edit"}
+    wanted = {f"sample/{name}.edit": begins for name, (_, _, begins) in (EDITS | DEFINED).items()} | {"sample/notes.txt": "no edit"}
     for label, begins in wanted.items():
         said = tried.get(label, "not told")
         yield said.startswith(begins), f"{label}: {said}"

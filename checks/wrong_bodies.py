@@ -17,8 +17,9 @@ function that reads it has to be refused.
 
 What isn't refused in its group is tried alone before it is told, in a check of its own function; the same is wanted.
 What changes more than bodies goes alone, in a check of the whole crate, where any refusal counts: a signature, a type,
-a derive, a clause, a definition, a proof; and a function of a cycle of calls, whose functions see one another's
-routines.
+a derive, a clause, a proof; and a function of a cycle of calls, whose functions see one another's routines. So does what
+changes definitions alone, but first a check of the functions is made whose clauses name one of them: it is enough that
+a lemma is refused there, or a file of theirs.
 
 For the same reason no other body is wanted: in a group's check each other function of the crate has `unreachable!()` in
 place of its body, and an open proof, so that nothing is searched there (tools/bodies.py). All is checked from nothing,
@@ -43,6 +44,7 @@ from crates import Unproved, crates_of, processors, text_of
 CONSTANT = re.compile(r"^(?:pub(?:\([^)]*\))? )?(?:const|static) (\w+): .*?;$", re.M | re.S)
 GOAL = re.compile(r"note: (?:what antt said .*?: )?(src/\S+?):(\d+):\d+: (?:error: `(\S+?)`|.*\(`(\S+?)`\))")
 ERROR = re.compile(r"(?:\./)?((?:src|specs|proofs)/\S+?):\d+:\d+: error")
+OPEN_PROOF = re.compile(r"(?:\./)?proofs/\S*/Proof\.antt:")
 TAKEN_AWAY = re.compile(r"has no field|is not in scope|has no `|was not admitted")
 UNREADABLE = re.compile(r"is not in scope|has no field|is no name|operand is missing|expected the end|cannot continue")
 
@@ -94,6 +96,15 @@ class Edit:
         constant = next((it for it in CONSTANT.finditer(text) if it.start() <= at < it.end()), None)
         self.is_of_bodies = self.is_of_bodies and bool(inside)
         return {inside[-1]} if inside else readers_of(self.crate, constant[1]) if constant else set()
+
+    def readers(self):
+        """The functions whose clauses name what it defines, where it changes definitions alone."""
+        if not all(path.startswith("specs/") for path, _, _ in self.pairs):
+            return set()
+        named = re.compile("|".join(rf"\b{re.escape(old.split()[0])}\b" for _, old, _ in self.pairs if old.strip()) or "$^")
+        texts = self.crate.sources()
+        found = [(it, texts[path].split("\n")) for path in texts for it in functions_of(self.crate, path, texts[path])]
+        return {it for it, lines in found if named.search("\n".join(lines[it.first - 1 : it.opens]))}
 
     def may_be_copied(self):
         """Whether it stands in one body, of a function that may stand in its file under another name as well."""
@@ -202,7 +213,7 @@ def check(edits, is_whole=False):
     """Checks a copy that holds these edits: the functions that they change, where that is all, in a crate in which no other
     has a body; or the whole crate as it is. Returns the status, what was said, and the functions of each edit."""
     crate, (texts, where) = edits[0].crate, laid_out(edits)
-    functions = {it for edit in where for it in where[edit]}
+    functions = {it for edit in where for it in where[edit]} or (set() if is_whole else edits[0].readers())
     only = sorted({it.name for it in functions})
     if functions and not is_whole:
         texts = hollow(crate, texts, functions)
@@ -258,6 +269,7 @@ def verdict_alone(edit, is_whole):
     placed = [it for it in errors if ERROR.match(it)[1] in texts]
     bad = [it for it in placed if "error: `" not in it or UNREADABLE.search(it)]
     told = [it for it in lines if GOAL.match(it) or it in errors and not TAKEN_AWAY.search(it)]
+    in_files = [it for it in told if ERROR.match(it) and not OPEN_PROOF.match(it)]
     found = refusal(where.get(edit, ()), said)
     if bad:
         return f"BAD EDIT: it doesn't compile or read: {bad[0][:150]}"
@@ -265,13 +277,16 @@ def verdict_alone(edit, is_whole):
         return f"refused alone, {found}"
     if not edit.functions and status == 1 and lines[-1].startswith("logic=not-proved") and told:
         return f"refused alone, in the crate: {told[0][:150]}"
+    if edit.readers() and not is_whole and status == 1 and in_files:
+        return f"refused alone, where it is named: {in_files[0][:150]}"
     return f"NOT REFUSED: {lines[-1][:150]}"
 
 
 def try_alone(edit):
     """Tells an edit by a check that holds it alone, and by one of the crate as it is before it is told as not refused."""
     verdict = verdict_alone(edit, is_whole=False)
-    edit.tell(verdict if verdict.startswith("refused") or not edit.functions else verdict_alone(edit, is_whole=True))
+    is_last = verdict.startswith("refused") or not edit.functions and not edit.readers()
+    edit.tell(verdict if is_last else verdict_alone(edit, is_whole=True))
 
 
 def files_of(crate):
