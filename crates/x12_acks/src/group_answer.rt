@@ -1,9 +1,8 @@
 //! The functional acknowledgment (997) of a functional group: AK1, its transaction sets, AK9.
-#![tactic(auto, using(x12_envelopes::proofs::FrontLemmas::starts_trans))]
+#![tactic(auto)]
 
 ghost use Rattle.std.specs.Prelude.{◌≡◌, ◌++◌, ◌∷◌, ◌≤◌, ◌+◌, [], codes, decimal, length, flat_map};
 ghost use Rattle.std.specs.Prelude.{map, OnOk, IfOk, option_to_list, option_map};
-ghost use Rattle.std.specs.Io.{StartsWith};
 ghost use Rattle.x12_envelopes.specs.Byte.{zero_padded_number};
 ghost use Rattle.x12_envelopes.specs.Segment.{segment_text, text_of};
 ghost use Rattle.x12_envelopes.specs.Envelope.{set_segments};
@@ -19,7 +18,7 @@ use x12_envelopes::{
 use x12_judge::{GroupRefusal, GroupVerdict, SetVerdict};
 
 /// Appends the 997 of a functional group, with its control number.
-#[tactic(auto, using(x12_envelopes::proofs::FrontLemmas::starts_trans), unfolding(crate::specs::Reply::group_answer))]
+#[tactic(auto, unfolding(crate::specs::Reply::group_answer))]
 pub(crate) fn push_group_answer(
     out: &mut Vec<u8>,
     delims: &Delims,
@@ -28,7 +27,6 @@ pub(crate) fn push_group_answer(
 ) -> Result<(), AllocError>
     ensures written { OnOk result (out.new.items ≡ out.old.items ++ text_of delims.now
         (set_segments (group_answer number (group_verdict_view verdict.now)))) }
-    ensures front { StartsWith out.new.items out.old.items }
 {
     push_st(out, delims, number)?;
     push_ak1(out, delims, &verdict.functional, verdict.number_text)?;
@@ -38,11 +36,10 @@ pub(crate) fn push_group_answer(
 }
 
 /// Appends ST of a 997.
-#[tactic(auto, using(x12_envelopes::proofs::FrontLemmas::starts_trans), unfolding(x12_envelopes::specs::Segment::segment_text))]
+#[tactic(auto, unfolding(x12_envelopes::specs::Segment::segment_text))]
 fn push_st(out: &mut Vec<u8>, delims: &Delims, number: u64) -> Result<(), AllocError>
     ensures written { OnOk result (out.new.items ≡ out.old.items
         ++ segment_text delims.now (codes "ST" ∷ codes "997" ∷ zero_padded_number 4 number ∷ [])) }
-    ensures front { StartsWith out.new.items out.old.items }
 {
     out.extend_from_slice(&[b'S', b'T', delims.element, b'9', b'9', b'7'])?;
     push_padded(out, delims, 4, number)?;
@@ -50,7 +47,7 @@ fn push_st(out: &mut Vec<u8>, delims: &Delims, number: u64) -> Result<(), AllocE
 }
 
 /// Appends AK1: GS01 and GS06 of the functional group.
-#[tactic(auto, using(x12_envelopes::proofs::FrontLemmas::starts_trans), unfolding(x12_envelopes::specs::Segment::segment_text))]
+#[tactic(auto, unfolding(x12_envelopes::specs::Segment::segment_text))]
 fn push_ak1(
     out: &mut Vec<u8>,
     delims: &Delims,
@@ -59,7 +56,6 @@ fn push_ak1(
 ) -> Result<(), AllocError>
     ensures written { OnOk result (out.new.items ≡ out.old.items
         ++ segment_text delims.now (codes "AK1" ∷ functional.now ∷ number.now ∷ [])) }
-    ensures front { StartsWith out.new.items out.old.items }
 {
     push_identifier(out, b"AK1")?;
     push_element(out, delims, functional)?;
@@ -78,7 +74,6 @@ fn push_set_answers(
     ensures segments { IfOk result (λ n.
         n ≡ length (flat_map set_answer (map set_verdict_view sets.now))) }
     ensures few { IfOk result (λ n. n ≤ length out.new.items) }
-    ensures front { StartsWith out.new.items out.old.items }
 {
     let mut segments = 0;
     for verdict in sets {
@@ -105,11 +100,10 @@ fn group_code_letter(verdict: &GroupVerdict) -> u8
 }
 
 /// Appends AK9.
-#[tactic(auto, using(x12_envelopes::proofs::FrontLemmas::starts_trans), unfolding(x12_envelopes::specs::Segment::segment_text))]
+#[tactic(auto, unfolding(x12_envelopes::specs::Segment::segment_text))]
 fn push_ak9(out: &mut Vec<u8>, delims: &Delims, verdict: &GroupVerdict) -> Result<(), AllocError>
     ensures written { OnOk result (out.new.items ≡
         out.old.items ++ segment_text delims.now (ak9_segment (group_verdict_view verdict.now))) }
-    ensures front { StartsWith out.new.items out.old.items }
 {
     let code = group_code_letter(verdict);
     out.extend_from_slice(&[b'A', b'K', b'9', delims.element, code])?;
@@ -129,7 +123,6 @@ fn push_refusal(
     ensures written { OnOk result (
         let codes = option_to_list (option_map refusal_code refused) in
         out.new.items ≡ out.old.items ++ flat_map (λ e. delims.now.element ∷ e) codes) }
-    ensures front { StartsWith out.new.items out.old.items }
 {
     match refused {
         Some(refusal) => push_number(out, delims, u64::from(refusal.number())),
@@ -138,12 +131,11 @@ fn push_refusal(
 }
 
 /// Appends SE: how many segments with ST and SE, and the number of ST.
-#[tactic(auto, using(x12_envelopes::proofs::FrontLemmas::starts_trans), unfolding(x12_envelopes::specs::Segment::segment_text))]
+#[tactic(auto, unfolding(x12_envelopes::specs::Segment::segment_text))]
 fn push_se(out: &mut Vec<u8>, delims: &Delims, segments: u64, number: u64) -> Result<(), AllocError>
     ensures written { OnOk result (out.new.items ≡ out.old.items
         ++ segment_text delims.now (codes "SE" ∷ decimal segments ∷ zero_padded_number 4 number
         ∷ [])) }
-    ensures front { StartsWith out.new.items out.old.items }
 {
     push_identifier(out, b"SE")?;
     push_number(out, delims, segments)?;

@@ -1,9 +1,8 @@
 //! The interchange of a reply: ISA, TA1, the functional group of acknowledgments, IEA.
-#![tactic(auto, using(x12_envelopes::proofs::FrontLemmas::starts_trans))]
+#![tactic(auto)]
 
 ghost use Rattle.std.specs.Prelude.{◌≡◌, ◌++◌, ◌∷◌, ◌≤◌, ◌+◌, [], codes, decimal, length, flat_map};
 ghost use Rattle.std.specs.Prelude.{map, OnOk, IfOk};
-ghost use Rattle.std.specs.Io.{StartsWith};
 ghost use Rattle.x12_envelopes.specs.Byte.{zero_padded_number};
 ghost use Rattle.x12_envelopes.specs.Segment.{segment_text, text_of};
 ghost use Rattle.x12_envelopes.specs.Envelope.{isa_segment};
@@ -22,7 +21,7 @@ use x12_envelopes::{
 use x12_judge::{GroupVerdict, Note};
 
 /// Appends the reply to a refused interchange: one TA1 with the note.
-#[tactic(auto, using(x12_envelopes::proofs::FrontLemmas::starts_trans), unfolding(x12_envelopes::specs::Envelope::written, crate::specs::Reply::reply_to, crate::specs::Reply::refusal_of))]
+#[tactic(auto, unfolding(x12_envelopes::specs::Envelope::written, crate::specs::Reply::reply_to, crate::specs::Reply::refusal_of))]
 pub(crate) fn push_refused(
     out: &mut Vec<u8>,
     note: Note,
@@ -34,7 +33,6 @@ pub(crate) fn push_refused(
     requires interchange_number { icn ≤ 999999999 }
     ensures written { OnOk result (out.new.items ≡
         out.old.items ++ written (refusal_of note.0 header.now me.now at.now icn)) }
-    ensures front { StartsWith out.new.items out.old.items }
 {
     push_isa(out, header, me, at, icn)?;
     push_ta1(out, header, b"R", note.0)?;
@@ -52,7 +50,7 @@ fn usage_of(usage: u8) -> u8
 }
 
 /// Appends ISA of a reply to an interchange with this header.
-#[tactic(auto, using(x12_envelopes::proofs::FrontLemmas::starts_trans), unfolding(crate::specs::Reply::reply_to))]
+#[tactic(auto, unfolding(crate::specs::Reply::reply_to))]
 fn push_isa(
     out: &mut Vec<u8>,
     header: &Header,
@@ -64,7 +62,6 @@ fn push_isa(
     ensures written { OnOk result (
         let reply = reply_to header.now me.now at.now icn [] [] in
         out.new.items ≡ out.old.items ++ segment_text reply.delims (isa_segment reply)) }
-    ensures front { StartsWith out.new.items out.old.items }
 {
     let isa = Header {
         delims: header.delims,
@@ -82,11 +79,10 @@ fn push_isa(
 }
 
 /// Appends TA1: number, date and time of the interchange with this header, a code, and a note.
-#[tactic(auto, using(x12_envelopes::proofs::FrontLemmas::starts_trans), unfolding(x12_envelopes::specs::Segment::segment_text))]
+#[tactic(auto, unfolding(x12_envelopes::specs::Segment::segment_text))]
 fn push_ta1(out: &mut Vec<u8>, header: &Header, code: &[u8; 1], note: u16) -> Result<(), AllocError>
     ensures written { OnOk result (out.new.items ≡
         out.old.items ++ segment_text header.now.delims (ta1_segment header.now code.now note)) }
-    ensures front { StartsWith out.new.items out.old.items }
 {
     let delims = &header.delims;
     push_identifier(out, b"TA1")?;
@@ -99,11 +95,10 @@ fn push_ta1(out: &mut Vec<u8>, header: &Header, code: &[u8; 1], note: u16) -> Re
 }
 
 /// Appends IEA: how many functional groups, and the number of ISA.
-#[tactic(auto, using(x12_envelopes::proofs::FrontLemmas::starts_trans), unfolding(x12_envelopes::specs::Segment::segment_text))]
+#[tactic(auto, unfolding(x12_envelopes::specs::Segment::segment_text))]
 fn push_iea(out: &mut Vec<u8>, delims: &Delims, groups: u64, icn: u32) -> Result<(), AllocError>
     ensures written { OnOk result (out.new.items ≡ out.old.items
         ++ segment_text delims.now (codes "IEA" ∷ decimal groups ∷ zero_padded_number 9 icn ∷ [])) }
-    ensures front { StartsWith out.new.items out.old.items }
 {
     push_identifier(out, b"IEA")?;
     push_number(out, delims, groups)?;
@@ -113,7 +108,7 @@ fn push_iea(out: &mut Vec<u8>, delims: &Delims, groups: u64, icn: u32) -> Result
 
 /// Appends the reply to an interchange that was judged: a TA1 where it asks for one, and the functional
 /// group of acknowledgments where a group was judged.
-#[tactic(auto, using(x12_envelopes::proofs::FrontLemmas::starts_trans), unfolding(x12_envelopes::specs::Envelope::written, crate::specs::Reply::reply_to))]
+#[tactic(auto, unfolding(x12_envelopes::specs::Envelope::written, crate::specs::Reply::reply_to))]
 pub(crate) fn push_judged(
     out: &mut Vec<u8>,
     header: &Header,
@@ -126,7 +121,6 @@ pub(crate) fn push_judged(
         let answers = answer_groups me.at me.gcn (map group_verdict_view groups.now) in
         out.new.items ≡ out.old.items
         ++ written (reply_to header.now me.me me.at me.icn (accepted_tas header.now) answers)) }
-    ensures front { StartsWith out.new.items out.old.items }
 {
     push_isa(out, header, &own.me, &own.at, own.icn)?;
     push_accepted(out, header)?;
@@ -138,7 +132,6 @@ pub(crate) fn push_judged(
 fn push_accepted(out: &mut Vec<u8>, header: &Header) -> Result<(), AllocError>
     ensures written { OnOk result (out.new.items ≡
         out.old.items ++ text_of header.now.delims (accepted_tas header.now)) }
-    ensures front { StartsWith out.new.items out.old.items }
 {
     if header.ack != b'1' {
         return Ok(());
@@ -148,7 +141,7 @@ fn push_accepted(out: &mut Vec<u8>, header: &Header) -> Result<(), AllocError>
 
 /// Appends the functional group of acknowledgments, and says how many there are: none where no group
 /// was judged.
-#[tactic(auto, using(x12_envelopes::proofs::FrontLemmas::starts_trans), unfolding(crate::specs::Reply::answer_groups))]
+#[tactic(auto, unfolding(crate::specs::Reply::answer_groups))]
 fn push_answers(
     out: &mut Vec<u8>,
     delims: &Delims,
@@ -160,7 +153,6 @@ fn push_answers(
         (flat_map group_segments (answer_groups at.now gcn (map group_verdict_view groups.now)))) }
     ensures groups { IfOk result (λ n.
         n ≡ length (answer_groups at.now gcn (map group_verdict_view groups.now))) }
-    ensures front { StartsWith out.new.items out.old.items }
 {
     let Some((first, _)) = groups.split_first() else {
         return Ok(0);
@@ -172,7 +164,7 @@ fn push_answers(
 }
 
 /// Appends GS of the acknowledgments: between the parties of the first group, the other way round.
-#[tactic(auto, using(x12_envelopes::proofs::FrontLemmas::starts_trans), unfolding(x12_envelopes::specs::Segment::segment_text))]
+#[tactic(auto, unfolding(x12_envelopes::specs::Segment::segment_text))]
 fn push_gs(
     out: &mut Vec<u8>,
     delims: &Delims,
@@ -182,7 +174,6 @@ fn push_gs(
 ) -> Result<(), AllocError>
     ensures written { OnOk result (out.new.items ≡ out.old.items
         ++ segment_text delims.now (answer_header at.now gcn (group_verdict_view first.now))) }
-    ensures front { StartsWith out.new.items out.old.items }
 {
     let (from, to) = (first.receiver, first.sender);
     out.extend_from_slice(&[b'G', b'S', delims.element, b'F', b'A'])?;
@@ -203,7 +194,6 @@ fn push_end_of_gs(
         let end = at.now.date ∷ at.now.time ∷ decimal gcn ∷ codes "X" ∷ codes "004010" ∷ [] in
         out.new.items ≡ out.old.items
         ++ (flat_map (λ e. delims.now.element ∷ e) end ++ delims.now.terminator ∷ [])) }
-    ensures front { StartsWith out.new.items out.old.items }
 {
     push_element(out, delims, &at.date())?;
     push_element(out, delims, &at.time())?;
@@ -217,7 +207,6 @@ fn push_version(out: &mut Vec<u8>, delims: &Delims) -> Result<(), AllocError>
         let version = codes "X" ∷ codes "004010" ∷ [] in
         out.new.items ≡ out.old.items
         ++ (flat_map (λ e. delims.now.element ∷ e) version ++ delims.now.terminator ∷ [])) }
-    ensures front { StartsWith out.new.items out.old.items }
 {
     let mut version = *b"*X*004010~";
     version[0] = delims.element;
@@ -234,7 +223,6 @@ fn push_group_answers(
 ) -> Result<(), AllocError>
     ensures written { OnOk result (out.new.items ≡ out.old.items ++ text_of delims.now
         (flat_map set_segments (numbered_answers (map group_verdict_view groups.now)))) }
-    ensures front { StartsWith out.new.items out.old.items }
 {
     let mut number = 1;
     for verdict in groups {
@@ -245,11 +233,10 @@ fn push_group_answers(
 }
 
 /// Appends GE: how many transaction sets, and the number of GS.
-#[tactic(auto, using(x12_envelopes::proofs::FrontLemmas::starts_trans), unfolding(x12_envelopes::specs::Segment::segment_text))]
+#[tactic(auto, unfolding(x12_envelopes::specs::Segment::segment_text))]
 fn push_ge(out: &mut Vec<u8>, delims: &Delims, sets: u64, gcn: u32) -> Result<(), AllocError>
     ensures written { OnOk result (out.new.items ≡ out.old.items
         ++ segment_text delims.now (codes "GE" ∷ decimal sets ∷ decimal gcn ∷ [])) }
-    ensures front { StartsWith out.new.items out.old.items }
 {
     push_identifier(out, b"GE")?;
     push_number(out, delims, sets)?;

@@ -1,8 +1,7 @@
 //! The notes of a transaction set as they are written: AK3 of a segment, AK4 of an element.
-#![tactic(auto, using(x12_envelopes::proofs::FrontLemmas::starts_trans))]
+#![tactic(auto)]
 
 ghost use Rattle.std.specs.Prelude.{◌≡◌, ◌++◌, ◌∷◌, flat_map, OnOk};
-ghost use Rattle.std.specs.Io.{StartsWith};
 ghost use Rattle.x12_envelopes.specs.Segment.{segment_text};
 ghost use Rattle.x12_judge.specs.Segment.{ElementNote};
 ghost use Rattle.x12_judge.specs.Verdict.{note_view};
@@ -20,7 +19,6 @@ pub(crate) fn push_note(
 ) -> Result<(), AllocError>
     ensures written { OnOk result (out.new.items ≡
         out.old.items ++ segment_text delims.now (note_segment (note_view note.now))) }
-    ensures front { StartsWith out.new.items out.old.items }
 {
     match *note {
         SetNote::Segment {
@@ -38,7 +36,7 @@ pub(crate) fn push_note(
 }
 
 /// Appends AK3.
-#[tactic(auto, using(x12_envelopes::proofs::FrontLemmas::starts_trans), unfolding(x12_envelopes::specs::Segment::segment_text))]
+#[tactic(auto, unfolding(x12_envelopes::specs::Segment::segment_text))]
 fn push_ak3(
     out: &mut Vec<u8>,
     delims: &Delims,
@@ -48,7 +46,6 @@ fn push_ak3(
 ) -> Result<(), AllocError>
     ensures written { OnOk result (out.new.items ≡
         out.old.items ++ segment_text delims.now (ak3_segment identifier.now position code)) }
-    ensures front { StartsWith out.new.items out.old.items }
 {
     push_identifier(out, b"AK3")?;
     push_element(out, delims, identifier)?;
@@ -59,7 +56,7 @@ fn push_ak3(
 }
 
 /// Appends AK4; an empty copy is left off.
-#[tactic(auto, using(x12_envelopes::proofs::FrontLemmas::starts_trans), unfolding(x12_envelopes::specs::Segment::segment_text))]
+#[tactic(auto, unfolding(x12_envelopes::specs::Segment::segment_text))]
 fn push_ak4(
     out: &mut Vec<u8>,
     delims: &Delims,
@@ -76,7 +73,6 @@ fn push_ak4(
           copy = copy.now;
         } in
         out.new.items ≡ out.old.items ++ segment_text delims.now (ak4_segment note)) }
-    ensures front { StartsWith out.new.items out.old.items }
 {
     push_identifier(out, b"AK4")?;
     push_number(out, delims, u64::from(place))?;
@@ -90,7 +86,6 @@ fn push_ak4(
 fn push_unless_empty(out: &mut Vec<u8>, delims: &Delims, text: &[u8]) -> Result<(), AllocError>
     ensures written { OnOk result (out.new.items ≡
         out.old.items ++ flat_map (λ e. delims.now.element ∷ e) (unless_empty text.now)) }
-    ensures front { StartsWith out.new.items out.old.items }
 {
     if text.is_empty() {
         return Ok(());

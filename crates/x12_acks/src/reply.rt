@@ -2,7 +2,6 @@
 //! acknowledgment (997), as an interchange to be written.
 
 ghost use Rattle.std.specs.Prelude.{◌≡◌, ◌++◌, ◌≤◌, OnOk, OnErr, IfOk, IsTrue};
-ghost use Rattle.std.specs.Io.{StartsWith};
 ghost use Rattle.x12_envelopes.specs.Envelope.{written};
 ghost use Rattle.x12_acks.specs.Reply.{is_reply_due, takes_group_number, reply_from, refusal_of};
 ghost use Rattle.x12_judge.specs.Verdict.{judgement_view};
@@ -46,7 +45,7 @@ pub fn write_reply(
         written (reply_from header.now (judgement_view judgement.now) own.now)) }
 {
     let mut reply = Vec::new(alloc);
-    push_reply(&mut reply, header, judgement, own)?;
+    push_answer(&mut reply, header, judgement, own)?;
     Ok(reply)
 }
 
@@ -63,12 +62,8 @@ pub fn push_reply(
         ++ written (reply_from header.now (judgement_view judgement.now) own.now)) }
     ensures unchanged { OnErr result (out.new.items ≡ out.old.items) }
 {
-    let before = out.len();
-    let pushed = push_answer(out, header, judgement, own);
-    if pushed.is_err() {
-        out.truncate(before);
-    }
-    pushed
+    let reply = write_reply(*out.allocator(), header, judgement, own)?;
+    out.extend_from_slice(&reply)
 }
 
 /// Appends a reply; on want of memory a part of it may stand behind what stood in `out`.
@@ -82,7 +77,6 @@ fn push_answer(
     requires interchange_number { own.now.icn ≤ 999999999 }
     ensures reply { OnOk result (out.new.items ≡ out.old.items
         ++ written (reply_from header.now (judgement_view judgement.now) own.now)) }
-    ensures front { StartsWith out.new.items out.old.items }
 {
     match &judgement.verdict {
         Verdict::Refused(note) => { push_refused(out, *note, header, &own.me, &own.at, own.icn) }

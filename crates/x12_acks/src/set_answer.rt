@@ -1,9 +1,8 @@
 //! A transaction set's part of a functional acknowledgment (997): AK2, its notes, AK5.
-#![tactic(auto, using(x12_envelopes::proofs::FrontLemmas::starts_trans))]
+#![tactic(auto)]
 
 ghost use Rattle.std.specs.Prelude.{◌≡◌, ◌++◌, ◌∷◌, ◌≤◌, ◌+◌, [], codes, length, flat_map, map};
 ghost use Rattle.std.specs.Prelude.{OnOk, IfOk};
-ghost use Rattle.std.specs.Io.{StartsWith};
 ghost use Rattle.x12_envelopes.specs.Segment.{segment_text, text_of};
 ghost use Rattle.x12_envelopes.specs.Shape.{bytes_of_set_no};
 ghost use Rattle.x12_judge.specs.Verdict.{set_verdict_view, note_view};
@@ -18,7 +17,6 @@ use x12_judge::{SetCode, SetNote, SetVerdict};
 fn push_notes(out: &mut Vec<u8>, delims: &Delims, notes: &[SetNote]) -> Result<(), AllocError>
     ensures written { OnOk result (out.new.items ≡
         out.old.items ++ text_of delims.now (map note_segment (map note_view notes.now))) }
-    ensures front { StartsWith out.new.items out.old.items }
 {
     for note in notes {
         push_note(out, delims, note)?;
@@ -30,7 +28,6 @@ fn push_notes(out: &mut Vec<u8>, delims: &Delims, notes: &[SetNote]) -> Result<(
 fn push_codes(out: &mut Vec<u8>, delims: &Delims, codes: &[SetCode]) -> Result<(), AllocError>
     ensures written { OnOk result (out.new.items ≡
         out.old.items ++ flat_map (λ e. delims.now.element ∷ e) (map code_of_set codes.now)) }
-    ensures front { StartsWith out.new.items out.old.items }
 {
     for code in codes {
         push_number(out, delims, u64::from(code.number()))?;
@@ -39,11 +36,10 @@ fn push_codes(out: &mut Vec<u8>, delims: &Delims, codes: &[SetCode]) -> Result<(
 }
 
 /// Appends AK5: accepted where there is no code, and else rejected.
-#[tactic(auto, using(x12_envelopes::proofs::FrontLemmas::starts_trans), unfolding(x12_envelopes::specs::Segment::segment_text))]
+#[tactic(auto, unfolding(x12_envelopes::specs::Segment::segment_text))]
 fn push_ak5(out: &mut Vec<u8>, delims: &Delims, verdict: &SetVerdict) -> Result<(), AllocError>
     ensures written { OnOk result (out.new.items ≡
         out.old.items ++ segment_text delims.now (ak5_segment (set_verdict_view verdict.now))) }
-    ensures front { StartsWith out.new.items out.old.items }
 {
     let (element, end) = (delims.element, delims.terminator);
     if verdict.codes.is_empty() {
@@ -55,7 +51,7 @@ fn push_ak5(out: &mut Vec<u8>, delims: &Delims, verdict: &SetVerdict) -> Result<
 }
 
 /// Appends AK2: ST01 and ST02.
-#[tactic(auto, using(x12_envelopes::proofs::FrontLemmas::starts_trans), unfolding(x12_envelopes::specs::Segment::segment_text))]
+#[tactic(auto, unfolding(x12_envelopes::specs::Segment::segment_text))]
 fn push_ak2(
     out: &mut Vec<u8>,
     delims: &Delims,
@@ -64,7 +60,6 @@ fn push_ak2(
 ) -> Result<(), AllocError>
     ensures written { OnOk result (out.new.items ≡ out.old.items
         ++ segment_text delims.now (codes "AK2" ∷ set.now ∷ bytes_of_set_no number.now ∷ [])) }
-    ensures front { StartsWith out.new.items out.old.items }
 {
     push_identifier(out, b"AK2")?;
     push_element(out, delims, set)?;
@@ -73,7 +68,7 @@ fn push_ak2(
 }
 
 /// Appends a transaction set's part of the acknowledgment, and says how many segments it has.
-#[tactic(auto, using(x12_envelopes::proofs::FrontLemmas::starts_trans), unfolding(crate::specs::Reply::set_answer))]
+#[tactic(auto, unfolding(crate::specs::Reply::set_answer))]
 pub(crate) fn push_set_answer(
     out: &mut Vec<u8>,
     delims: &Delims,
@@ -83,7 +78,6 @@ pub(crate) fn push_set_answer(
         out.old.items ++ text_of delims.now (set_answer (set_verdict_view verdict.now))) }
     ensures segments { IfOk result (λ n. n ≡ length (set_answer (set_verdict_view verdict.now))) }
     ensures room { IfOk result (λ n. length out.old.items + n ≤ length out.new.items) }
-    ensures front { StartsWith out.new.items out.old.items }
 {
     push_ak2(out, delims, &verdict.set, &verdict.number)?;
     push_notes(out, delims, &verdict.notes)?;

@@ -1,5 +1,4 @@
 use Rattle.std.proofs.Common.{◌≡◌, ◌≤◌, ◌++◌, take, map, flat_map, length}
-use Rattle.std.specs.Io.{StartsWith}
 use Rattle.x12_envelopes.specs.Segment.{text_of}
 use Rattle.x12_judge.specs.Verdict.{set_verdict_view}
 use Rattle.x12_acks.specs.Reply.{set_answer}
@@ -10,5 +9,4 @@ invariant-loop-verdict l = record {
   written : l.out.items ≡ l.initial.out.items ++ text_of l.delims (flat_map set_answer (map set_verdict_view (take l.verdict-index l.sets)));
   segments : l.segments ≡ length (flat_map set_answer (map set_verdict_view (take l.verdict-index l.sets)));
   few : l.segments ≤ length l.out.items;
-  front : StartsWith l.out.items l.initial.out.items;
 }

@@ -1,5 +1,4 @@
 use Rattle.std.proofs.Common.{◌≡◌, ◌++◌, ◌+◌, take, map, flat_map}
-use Rattle.std.specs.Io.{StartsWith}
 use Rattle.x12_envelopes.specs.Segment.{text_of}
 use Rattle.x12_envelopes.specs.Envelope.{set_segments}
 use Rattle.x12_judge.specs.Verdict.{group_verdict_view}
@@ -10,5 +9,4 @@ abbrev pub invariant-loop-verdict : goal.invariant-loop-verdict
 invariant-loop-verdict l = record {
   written : l.out.items ≡ l.initial.out.items ++ text_of l.delims (flat_map set_segments (numbered_answers (map group_verdict_view (take l.verdict-index l.groups))));
   number : l.number ≡ l.verdict-index + 1;
-  front : StartsWith l.out.items l.initial.out.items;
 }

@@ -1,5 +1,4 @@
 use Rattle.std.proofs.Common.{◌≡◌, ◌++◌, take, map}
-use Rattle.std.specs.Io.{StartsWith}
 use Rattle.x12_envelopes.specs.Segment.{text_of}
 use Rattle.x12_judge.specs.Verdict.{note_view}
 use Rattle.x12_acks.specs.Reply.{note_segment}
@@ -8,5 +7,4 @@ use Rattle.x12_acks.proofs.set_answer.push_notes.Given as goal
 abbrev pub invariant-loop-note : goal.invariant-loop-note
 invariant-loop-note l = record {
   written : l.out.items ≡ l.initial.out.items ++ text_of l.delims (map note_segment (map note_view (take l.note-index l.notes)));
-  front : StartsWith l.out.items l.initial.out.items;
 }
