@@ -11,7 +11,7 @@ ghost use Rattle.x12_answering.specs.Answering.{agreements_on, line_of, IsAnswer
 ghost use Rattle.x12_answering.specs.Answering.{first_numbers, replies_in, lines_in, is_incomplete};
 ghost use Rattle.x12_answering.specs.Answering.{status_by};
 ghost use Rattle.x12_answering.specs.Fault.{is_reading_fault};
-ghost use Rattle.x12_answering.specs.Session.{NothingWaits, session_terms, session_answer, session_answers};
+ghost use Rattle.x12_answering.specs.Session.{NothingWaits, session_terms, session_reply, session_answer, session_answers};
 ghost use Rattle.x12_answering.specs.Number.{AreNext};
 ghost use Rattle.x12_answering.specs.Output.{AppendsFront};
 
@@ -102,30 +102,30 @@ impl Session {
         )
     }
 
-    /// Answers one interchange, and says whether that left a line.
-    #[tactic(auto, unfolding(crate::specs::Answering::answer_at, crate::specs::Answering::judged_answer, x12_acks::specs::Reply::due_reply))]
-    fn answer(&mut self, alloc: Global, place: usize, bytes: &[u8]) -> Result<bool, AllocError>
+    /// Replies to an interchange with this header that deserves this, where it is answered, and says
+    /// whether that left a line.
+    #[tactic(auto, unfolding(crate::specs::Answering::judged_answer, x12_acks::specs::Reply::due_reply))]
+    fn reply(
+        &mut self,
+        place: usize,
+        header: &Header,
+        judgement: &Judgement,
+    ) -> Result<bool, AllocError>
         requires numbers { AreNext self.old.numbers }
-        ensures reply { OnOk result (self.new.replies.items ≡ self.old.replies.items
-            ++ (session_answer self.old place bytes.now).reply) }
-        ensures line { OnOk result (self.new.lines.items ≡ self.old.lines.items
-            ++ unwrap_or (session_answer self.old place bytes.now).line []) }
-        ensures left { IfOk result (λ is_left. is_left ≡
-            is_some (session_answer self.old place bytes.now).line) }
-        ensures next { OnOk result (self.new.numbers ≡
-            (session_answer self.old place bytes.now).next) }
+        ensures reply { let j = judgement_view judgement.now in
+            OnOk result (self.new.replies.items ≡ self.old.replies.items
+            ++ (session_reply self.old place header.now j).reply) }
+        ensures line { let j = judgement_view judgement.now in
+            OnOk result (self.new.lines.items ≡ self.old.lines.items
+            ++ unwrap_or (session_reply self.old place header.now j).line []) }
+        ensures left { let j = judgement_view judgement.now in IfOk result (λ is_left.
+            is_left ≡ is_some (session_reply self.old place header.now j).line) }
+        ensures next { let j = judgement_view judgement.now in
+            OnOk result (self.new.numbers ≡ (session_reply self.old place header.now j).next) }
         ensures terms { session_terms self.new ≡ session_terms self.old }
         ensures numbers { AreNext self.new.numbers }
     {
-        let header = match read_header(bytes) {
-            Ok(header) => header,
-            Err(fault) => {
-                push_line(&mut self.lines, place, fault.number())?;
-                return Ok(true);
-            }
-        };
-        let judgement = self.judge(alloc, bytes, &header)?;
-        let due = needs(&header, &judgement);
+        let due = needs(header, judgement);
         if !due.reply {
             return Ok(false);
         }
@@ -140,9 +140,36 @@ impl Session {
             icn,
             gcn,
         };
-        push_reply(&mut self.replies, &header, &judgement, &own)?;
+        push_reply(&mut self.replies, header, judgement, &own)?;
         self.numbers.use_up(due.group);
         Ok(false)
+    }
+
+    /// Answers one interchange, and says whether that left a line.
+    #[tactic(auto, unfolding(crate::specs::Answering::answer_at))]
+    fn answer(&mut self, alloc: Global, place: usize, bytes: &[u8]) -> Result<bool, AllocError>
+        requires numbers { AreNext self.old.numbers }
+        ensures reply { OnOk result (self.new.replies.items ≡ self.old.replies.items
+            ++ (session_answer self.old place bytes.now).reply) }
+        ensures line { OnOk result (self.new.lines.items ≡ self.old.lines.items
+            ++ unwrap_or (session_answer self.old place bytes.now).line []) }
+        ensures left { IfOk result (λ is_left. is_left ≡
+            is_some (session_answer self.old place bytes.now).line) }
+        ensures next { OnOk result (self.new.numbers ≡
+            (session_answer self.old place bytes.now).next) }
+        ensures terms { session_terms self.new ≡ session_terms self.old }
+        ensures numbers { AreNext self.new.numbers }
+    {
+        match read_header(bytes) {
+            Ok(header) => {
+                let judgement = self.judge(alloc, bytes, &header)?;
+                self.reply(place, &header, &judgement)
+            }
+            Err(fault) => {
+                push_line(&mut self.lines, place, fault.number())?;
+                Ok(true)
+            }
+        }
     }
 
     /// Answers a transmission's interchanges in turn, and writes replies and lines as they come.

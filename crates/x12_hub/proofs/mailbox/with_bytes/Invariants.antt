@@ -6,9 +6,10 @@ use Rattle.x12_hub.specs.Standing.{HubWereAsked}
 use Rattle.x12_hub.proofs.mailbox.with_bytes.Given as goal
 
 abbrev pub invariant-loop-item : goal.invariant-loop-item
-invariant-loop-item g l =
-    HubWereAsked g.H.HubRecords l.initial.records l.records
-    × (g.H.HubRecords.failed l.records ≡ g.H.HubRecords.failed l.initial.records)
-    × (IsTrue (g.H.HubRecords.answers l.records) → map item_view l.found.items ++ with_bytes (g.H.HubRecords.content l.initial.records).decisions (drop l.item-index l.items) ≡ with_bytes (g.H.HubRecords.content l.initial.records).decisions l.items)
-    × (length l.found.items ≤ l.item-index)
-    × (IsTrue (g.H.HubRecords.clean l.records) → IsTrue (g.H.HubRecords.answers l.initial.records) → IsTrue (g.H.HubRecords.answers l.records))
+invariant-loop-item g l = record {
+  asked : HubWereAsked g.H.HubRecords l.initial.records l.records;
+  failed : g.H.HubRecords.failed l.records ≡ g.H.HubRecords.failed l.initial.records;
+  items : IsTrue (g.H.HubRecords.answers l.records) → map item_view l.found.items ++ with_bytes (g.H.HubRecords.content l.initial.records).decisions (drop l.item-index l.items) ≡ with_bytes (g.H.HubRecords.content l.initial.records).decisions l.items;
+  bounded : length l.found.items ≤ l.item-index;
+  answered : IsTrue (g.H.HubRecords.clean l.records) → IsTrue (g.H.HubRecords.answers l.initial.records) → IsTrue (g.H.HubRecords.answers l.records);
+}
