@@ -59,7 +59,7 @@ pub enum Answer {
 }
 
 /// Where the reading of a 997 stands.
-#[derive(Clone, Copy, Debug)]
+#[derive(Clone, Copy)]
 enum Place {
     /// Behind AK1 or AK5: AK2 or AK9 may follow.
     Between,

@@ -3,7 +3,7 @@
 use x12_envelopes::{Moment, Party};
 
 /// Who answers an interchange, when, and under which control numbers.
-#[derive(Clone, Copy, Debug)]
+#[derive(Clone, Copy)]
 pub struct ReplyHeader {
     /// Who answers (ISA05 and ISA06).
     pub me: Party,

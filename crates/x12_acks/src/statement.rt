@@ -12,7 +12,7 @@ use crate::answer::AnswerCode;
 use x12_envelopes::{Segment, Segments, SetNo, number_of};
 
 /// A segment of a 997, and what it states.
-#[derive(Clone, Copy, Debug)]
+#[derive(Clone, Copy)]
 pub(crate) enum Statement {
     /// ST of a 997.
     St,
@@ -155,7 +155,7 @@ fn stated_by(read: &Segment) -> Statement
 }
 
 /// The segments of a transaction set that are still to come, each with what it states in a 997.
-#[derive(Clone, Copy, Debug)]
+#[derive(Clone, Copy)]
 pub(crate) struct Statements<'a> {
     pub(crate) segments: Segments<'a>,
 }

@@ -43,7 +43,7 @@ fn push_line(out: &mut Vec<u8>, place: usize, why: &str) -> Result<(), AllocErro
 
 /// What answering a transmission has at hand: the terms, the numbers to be used next, and what is
 /// gathered before it is written.
-#[derive(Debug, Drop)]
+#[derive(Drop)]
 struct Session {
     me: Party,
     at: Moment,

@@ -7,7 +7,7 @@ ghost use Rattle.x12_answering.specs.Number.{numbers_are_exhausted, numbers_behi
 pub(crate) const GREATEST: u32 = 999_999_999;
 
 /// The control numbers to be used next: 1 to 999999999, or 1000000000 where none is left.
-#[derive(Clone, Copy, Debug, PartialEq, Eq)]
+#[derive(Clone, Copy, PartialEq, Eq)]
 pub(crate) struct NextNumbers {
     /// Of an interchange (ISA13).
     pub(crate) icn: u32,

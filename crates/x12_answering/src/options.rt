@@ -7,7 +7,7 @@ ghost use Rattle.x12_envelopes.specs.Party.{is_plain_party};
 use x12_envelopes::{Moment, Party};
 
 /// What answering is told.
-#[derive(Debug, Drop)]
+#[derive(Drop)]
 pub struct Options {
     /// Who answers: the receiver of the interchanges and the sender of the replies.
     pub me: Party,

@@ -22,7 +22,7 @@ use thiserror::Error;
 use x12_envelopes::{Moment, Party, is_date, is_time, number_of};
 
 /// The words that give the options.
-#[derive(Clone, Copy, Debug)]
+#[derive(Clone, Copy)]
 pub struct OptionWords<'a> {
     /// The two characters of the qualifier, then the identifier, as `ZZBETA`.
     pub me: &'a str,

@@ -44,7 +44,7 @@ pub enum Ask {
 }
 
 /// What changes a core, as it is asked: lent, so that nothing is copied.
-#[derive(Debug, Drop)]
+#[derive(Drop)]
 pub enum AskRef<'a> {
     /// To act of itself.
     Do(&'a Action),

@@ -25,7 +25,6 @@ use x12_hub::{Hub, HubRecords};
 use x12_station::{Records, Station};
 
 /// A core: what a node is, without its number.
-#[derive(Debug)]
 pub enum Core<R: Records, H: HubRecords> {
     /// A station.
     Station(Station<R>),

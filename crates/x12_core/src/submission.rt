@@ -1,7 +1,7 @@
 //! What was submitted.
 
 /// That a station submitted an interchange.
-#[derive(Clone, Copy, Debug)]
+#[derive(Clone, Copy)]
 pub struct Listed {
     /// The station's node.
     pub node: u16,

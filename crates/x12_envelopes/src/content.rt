@@ -45,7 +45,7 @@ pub enum Kind {
 }
 
 /// Where a segment stands, as far as the segment before it tells.
-#[derive(Clone, Copy, Debug, PartialEq, Eq)]
+#[derive(Clone, Copy, PartialEq, Eq)]
 pub(crate) enum Level {
     /// Behind ISA or a TA1.
     Front,

@@ -190,7 +190,7 @@ pub fn cut_short_segment<'a>(delims: &Delims, bytes: &'a [u8]) -> Option<(&'a [u
 
 /// The segments of a transaction set that are still to come, each without its terminator and
 /// without the line ends in front.
-#[derive(Clone, Copy, Debug)]
+#[derive(Clone, Copy)]
 pub struct Segments<'a> {
     delims: Delims,
     bytes: &'a [u8],

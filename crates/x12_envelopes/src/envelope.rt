@@ -6,7 +6,7 @@ use crate::moment::Moment;
 use crate::party::Party;
 
 /// A transaction set to be written. SE follows from it.
-#[derive(Debug, Drop)]
+#[derive(Drop)]
 pub struct SetEnvelope<'a> {
     /// ST: its identifier, then its elements.
     pub header: Vec<&'a [u8]>,
@@ -15,7 +15,7 @@ pub struct SetEnvelope<'a> {
 }
 
 /// A functional group to be written. GE follows from it.
-#[derive(Debug, Drop)]
+#[derive(Drop)]
 pub struct GroupEnvelope<'a> {
     /// GS: its identifier, then its elements.
     pub header: Vec<&'a [u8]>,
@@ -24,7 +24,7 @@ pub struct GroupEnvelope<'a> {
 }
 
 /// An interchange to be written. ISA and IEA follow from it.
-#[derive(Debug, Drop)]
+#[derive(Drop)]
 pub struct Envelope<'a> {
     /// The delimiters of the whole interchange.
     pub delims: Delims,

@@ -10,7 +10,7 @@ use crate::delimiters::Delims;
 
 /// A segment that was read, with the delimiters of its interchange. Its elements stand behind
 /// separators; empty ones at its end may be there or be left off (X12.6).
-#[derive(Clone, Copy, Debug)]
+#[derive(Clone, Copy)]
 pub struct Segment<'a> {
     /// Its bytes from the identifier on, without its terminator.
     pub bytes: &'a [u8],

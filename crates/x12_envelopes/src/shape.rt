@@ -21,7 +21,7 @@ pub enum AcknowledgmentCode {
 }
 
 /// An interchange acknowledgment, TA1 (X12.5).
-#[derive(Clone, Copy, Debug, PartialEq, Eq)]
+#[derive(Clone, Copy, PartialEq, Eq)]
 pub struct Ta1 {
     /// TA101, the control number of the interchange that is answered: 0 to 999999999.
     pub icn: u32,
@@ -80,7 +80,7 @@ impl SetNo {
 }
 
 /// What SE says of its transaction set (X12.6).
-#[derive(Clone, Copy, Debug)]
+#[derive(Clone, Copy)]
 pub struct SetTrailer<'a> {
     /// SE01, the number of segments with ST and SE; `None` where it is missing or no number.
     pub count: Option<u32>,
@@ -89,7 +89,7 @@ pub struct SetTrailer<'a> {
 }
 
 /// What GE says of its functional group (X12.6).
-#[derive(Clone, Copy, Debug)]
+#[derive(Clone, Copy)]
 pub struct GroupTrailer<'a> {
     /// GE01 as it came: the number of transaction sets.
     pub count_text: &'a [u8],
@@ -100,7 +100,7 @@ pub struct GroupTrailer<'a> {
 }
 
 /// A transaction set (X12.6).
-#[derive(Clone, Copy, Debug)]
+#[derive(Clone, Copy)]
 pub struct SetView<'a> {
     /// ST01, the transaction set identifier.
     pub set: [u8; 3],
@@ -115,7 +115,7 @@ pub struct SetView<'a> {
 }
 
 /// A functional group (X12.6).
-#[derive(Debug, Drop)]
+#[derive(Drop)]
 pub struct GroupView<'a> {
     /// GS01, the functional identifier code.
     pub functional: [u8; 2],
@@ -151,7 +151,7 @@ pub fn group_numbers(alloc: Global, groups: &[GroupView<'_>]) -> Result<Vec<u32>
 }
 
 /// What an interchange holds after ISA.
-#[derive(Debug, Drop)]
+#[derive(Drop)]
 pub struct Outline<'a> {
     /// The interchange acknowledgments, in their order.
     pub tas: Vec<Ta1>,

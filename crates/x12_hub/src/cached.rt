@@ -13,7 +13,7 @@ use std::collections::BTreeSet;
 use x12_envelopes::Party;
 
 /// What a hub keeps in memory of its records, with its own party.
-#[derive(Debug, Drop)]
+#[derive(Drop)]
 pub(crate) struct Cached {
     pub(crate) alloc: Global,
     pub(crate) me: Party,

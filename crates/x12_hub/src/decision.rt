@@ -6,7 +6,7 @@ ghost use Rattle.x12_hub.specs.Record.{decision_view};
 use std::alloc::{AllocError, Global};
 
 /// What became of an interchange that was deposited, for good.
-#[derive(Debug, Drop)]
+#[derive(Drop)]
 pub enum Decision {
     /// It was put into the receiver's mailbox.
     Boxed {

@@ -9,7 +9,7 @@ use x12_envelopes::Party;
 use x12_profile::{Countdown, CountedDown};
 
 /// Records that pass a number of calls on, answer the next as a failed device would, and go on.
-#[derive(Debug, Drop)]
+#[derive(Drop)]
 pub struct Failing<H> {
     records: H,
     countdown: Countdown,

@@ -20,7 +20,7 @@ use x12_envelopes::Party;
 ///
 /// What it promises of its state holds while its records answer. A refused call leaves it as it
 /// was, but for the count of failures; and what it has in memory, whether they answer or not.
-#[derive(Debug, Drop)]
+#[derive(Drop)]
 pub struct Hub<H: HubRecords> {
     pub(crate) records: H,
     pub(crate) cached: Cached,

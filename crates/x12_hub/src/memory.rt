@@ -24,7 +24,7 @@ use x12_envelopes::Party;
 /// Records of a hub in memory, which fail for want of memory alone. They hold each decision's bytes
 /// once, and find a decision by its bytes and by its item number; the directory is a list, which an
 /// enrolment or a dismissal walks.
-#[derive(Debug, Drop)]
+#[derive(Drop)]
 pub struct MemoryHubRecords {
     alloc: Global,
     party: Party,

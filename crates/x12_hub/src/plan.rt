@@ -8,7 +8,7 @@ use std::marker::Model;
 use x12_envelopes::Party;
 
 /// One change of a hub's records.
-#[derive(Debug, Drop)]
+#[derive(Drop)]
 pub enum HubChange {
     /// These bytes were decided for the first time, under the next item number; a boxed item waits.
     Decided {
@@ -35,7 +35,6 @@ pub enum HubChange {
 /// What a commit is to write: the last numbers as they are to be, and one change. It has no `Drop`:
 /// a commit takes it ([`HubRecords::commit`](crate::HubRecords::commit)), or gives it back.
 #[must_use]
-#[derive(Debug)]
 pub struct HubPlan {
     icn: u32,
     item: u32,
@@ -44,13 +43,12 @@ pub struct HubPlan {
 
 /// A plan that was committed. It has no `Drop`: the hub that planned it takes it in.
 #[must_use]
-#[derive(Debug)]
 pub struct HubCommitted {
     plan: HubPlan,
 }
 
 /// What a plan is to write.
-#[derive(Debug, Clone, Copy)]
+#[derive(Clone, Copy)]
 pub struct HubPlanView<'a> {
     /// The last interchange number that the hub used: 0 to 999999999.
     pub icn: u32,

@@ -26,7 +26,7 @@ pub enum HubStoreFault {
 }
 
 /// What a hub keeps in memory of its records.
-#[derive(Debug, Drop)]
+#[derive(Drop)]
 pub struct HubLoaded {
     /// The last interchange number: 0 to 999999999.
     pub icn: u32,

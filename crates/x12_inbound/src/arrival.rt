@@ -14,7 +14,7 @@ use x12_envelopes::Party;
 use x12_judge::{Judgement, judgements_are_small};
 
 /// An interchange that arrived, and is to be judged. It may be let go: nothing was written yet.
-#[derive(Debug, Drop)]
+#[derive(Drop)]
 pub struct Arrived<'a> {
     pub(crate) partner: Party,
     pub(crate) icn: u32,
@@ -24,7 +24,6 @@ pub struct Arrived<'a> {
 /// An interchange that was judged, with its reply and its postings. It has no `Drop`: what was
 /// judged is kept, reply and postings together.
 #[must_use]
-#[derive(Debug)]
 pub struct Judged {
     kept: Kept,
 }

@@ -23,7 +23,7 @@ use x12_envelopes::Party;
 ///
 /// An interchange is filed once under its sender and number, and the postings are the accepted
 /// transaction sets of the filed interchanges.
-#[derive(Debug, Drop)]
+#[derive(Drop)]
 pub struct Register {
     rows: Vec<FiledRow>,
     postings: Vec<Posting>,

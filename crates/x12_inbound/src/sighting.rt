@@ -9,7 +9,7 @@ use crate::filing::Filed;
 use x12_envelopes::Party;
 
 /// What an interchange that arrives is.
-#[derive(Debug, Drop)]
+#[derive(Drop)]
 pub enum Seen<'a> {
     /// Nothing is filed under its sender and number: it is to be judged.
     New(Arrived<'a>),

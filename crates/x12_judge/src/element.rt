@@ -10,7 +10,7 @@ use crate::verdict::ElementCode;
 use x12_envelopes::{Delims, is_date};
 
 /// What an element holds (X12.6, data element types).
-#[derive(Clone, Copy, Debug, PartialEq, Eq)]
+#[derive(Clone, Copy, PartialEq, Eq)]
 pub enum Form {
     /// Any text (AN, ID).
     Text,
@@ -37,7 +37,7 @@ impl Form {
 }
 
 /// What is asked of an element: each of them is mandatory.
-#[derive(Clone, Copy, Debug)]
+#[derive(Clone, Copy)]
 pub struct ElementRule {
     /// The identifier of its segment.
     pub segment: [u8; 3],

@@ -9,11 +9,11 @@ use arrayvec::ArrayVec;
 use x12_envelopes::SetNo;
 
 /// An interchange note code (TA105): 1 to 999.
-#[derive(Clone, Copy, Debug, PartialEq, Eq)]
+#[derive(Clone, Copy, PartialEq, Eq)]
 pub struct Note(pub u16);
 
 /// Why a functional group is refused (AK905): the first that holds.
-#[derive(Clone, Copy, Debug, PartialEq, Eq)]
+#[derive(Clone, Copy, PartialEq, Eq)]
 pub enum GroupRefusal {
     /// 1: the functional group isn't supported.
     NotSupported,
@@ -29,7 +29,7 @@ pub enum GroupRefusal {
 
 /// Why a transaction set is rejected (AK502): each that holds. The first is the default, which stands
 /// in the places of `SetCodes` that hold none.
-#[derive(Clone, Copy, Debug, Default, PartialEq, Eq)]
+#[derive(Clone, Copy, Default, PartialEq, Eq)]
 pub enum SetCode {
     /// 1: the transaction set isn't supported.
     #[default]
@@ -47,7 +47,7 @@ pub enum SetCode {
 }
 
 /// What is wrong with a segment (AK304).
-#[derive(Clone, Copy, Debug, PartialEq, Eq)]
+#[derive(Clone, Copy, PartialEq, Eq)]
 pub enum SegmentCode {
     /// 1: an identifier that isn't recognized.
     Unrecognized,
@@ -60,7 +60,7 @@ pub enum SegmentCode {
 }
 
 /// What is wrong with an element (AK403): the first that holds.
-#[derive(Clone, Copy, Debug, PartialEq, Eq)]
+#[derive(Clone, Copy, PartialEq, Eq)]
 pub enum ElementCode {
     /// 1: a mandatory element is missing.
     Missing,
@@ -76,7 +76,7 @@ pub enum ElementCode {
 
 /// What an acknowledgment reports of a transaction set: a segment (AK3) or one of its elements
 /// (AK4).
-#[derive(Clone, Copy, Debug)]
+#[derive(Clone, Copy)]
 pub enum SetNote<'a> {
     /// AK3.
     Segment {
@@ -104,7 +104,7 @@ pub enum SetNote<'a> {
 pub type SetCodes = ArrayVec<SetCode, 6>;
 
 /// What a transaction set deserves: it is accepted where no code holds.
-#[derive(Debug, Drop)]
+#[derive(Drop)]
 pub struct SetVerdict<'a> {
     /// ST01.
     pub set: [u8; 3],
@@ -128,7 +128,7 @@ impl<'a> SetVerdict<'a> {
 }
 
 /// What a functional group deserves.
-#[derive(Debug, Drop)]
+#[derive(Drop)]
 pub struct GroupVerdict<'a> {
     /// The group's place among all groups of its interchange, from 1.
     pub place: u16,
@@ -153,7 +153,7 @@ pub struct GroupVerdict<'a> {
 }
 
 /// What an interchange deserves.
-#[derive(Debug, Drop)]
+#[derive(Drop)]
 pub enum Verdict<'a> {
     /// The whole interchange is refused, with this note (TA105): never 009, never 025.
     Refused(Note),
@@ -162,7 +162,7 @@ pub enum Verdict<'a> {
 }
 
 /// What an interchange deserves, and whether it may be answered at all.
-#[derive(Debug, Drop)]
+#[derive(Drop)]
 pub struct Judgement<'a> {
     /// Whether the interchange holds TA1s and no group: it is never answered.
     pub silent: bool,

@@ -15,7 +15,7 @@ use x12_station::{Failing, Station};
 use x12_world::World;
 
 /// How many calls the records of each hub pass before they fail once; those of the stations never do.
-#[derive(Clone, Copy, Debug)]
+#[derive(Clone, Copy)]
 struct Passes {
     first: u64,
     second: u64,

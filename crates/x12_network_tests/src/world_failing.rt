@@ -22,7 +22,7 @@ pub(crate) type FailingNet = World<Failing<RecordsOfStation>, FailingHub<Records
 pub(crate) const CALLS: u64 = 200;
 
 /// How many calls BETA's records pass, and the hub's, before they fail once; ALPHA's never do.
-#[derive(Clone, Copy, Debug)]
+#[derive(Clone, Copy)]
 struct Passes {
     beta: u64,
     hub: u64,

@@ -18,7 +18,7 @@ pub enum Answer {
 }
 
 /// A call that a node took, as its caller has it.
-#[derive(Debug, Drop)]
+#[derive(Drop)]
 pub struct Receipt {
     /// The node: 0 is the hub, 1 to 16 are the stations.
     pub node: u16,
@@ -43,7 +43,7 @@ pub(crate) enum Kept {
 }
 
 /// A call that a node took, as its log keeps it.
-#[derive(Debug, Drop)]
+#[derive(Drop)]
 pub(crate) struct LogEntry {
     pub(crate) stamp: u64,
     pub(crate) ask: Ask,

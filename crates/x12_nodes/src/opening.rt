@@ -10,7 +10,7 @@ use x12_hub::HubRecords;
 use x12_station::Records;
 
 /// A node with empty records.
-#[derive(Clone, Copy, Debug)]
+#[derive(Clone, Copy)]
 pub(crate) enum Opening {
     /// The hub of this party.
     Hub(Party),

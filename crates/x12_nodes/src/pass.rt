@@ -11,7 +11,6 @@ use std::marker::Model;
 ///
 /// It has no `Drop`, since an event in no pass is one that nobody answers for: it is spent by
 /// `settle`, or let go by `discard`.
-#[derive(Debug)]
 pub struct Pass {
     pub(crate) receipts: Vec<Receipt>,
 }

@@ -15,7 +15,7 @@ use x12_core::{Ask, Load, Packet, PacketName, SECOND_HUB_NODE};
 use x12_envelopes::Party;
 
 /// A packet under its name, whose event is the stamp of the call that sent it.
-#[derive(Debug, Drop)]
+#[derive(Drop)]
 struct Posted {
     name: PacketName,
     packet: Packet,
@@ -23,7 +23,7 @@ struct Posted {
 
 /// What stands behind the wire's lock: the last stamp, and of each node what it sent to each, by rising
 /// name.
-#[derive(Debug, Drop)]
+#[derive(Drop)]
 struct Lines {
     stamp: u64,
     second: bool,

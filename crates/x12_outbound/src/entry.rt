@@ -13,7 +13,7 @@ use std::sync::ArcSlice;
 use x12_envelopes::{GroupView, Header, Outline, Party, SetNo};
 
 /// A submitted transaction set.
-#[derive(Clone, Copy, Debug)]
+#[derive(Clone, Copy)]
 pub struct EntrySet {
     /// The transaction set control number (ST02).
     pub number: SetNo,
@@ -38,7 +38,7 @@ impl EntrySet {
 }
 
 /// A submitted functional group.
-#[derive(Debug, Drop)]
+#[derive(Drop)]
 pub struct EntryGroup {
     /// The functional identifier code (GS01).
     pub functional: [u8; 2],
@@ -49,7 +49,7 @@ pub struct EntryGroup {
 }
 
 /// A submitted interchange.
-#[derive(Debug, Drop)]
+#[derive(Drop)]
 pub struct Entry {
     /// The interchange control number (ISA13): 1 to 999999999.
     pub icn: u32,

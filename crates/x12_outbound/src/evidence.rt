@@ -11,7 +11,7 @@ use x12_acks::SetKey;
 use x12_envelopes::{Party, SetNo};
 
 /// What an answer names (the numbers that it tells).
-#[derive(Clone, Copy, Debug)]
+#[derive(Clone, Copy)]
 pub(crate) enum Naming {
     /// A TA1: the interchange.
     Interchange,
@@ -20,7 +20,7 @@ pub(crate) enum Naming {
 }
 
 /// What is said of a submitted transaction set.
-#[derive(Clone, Copy, Debug)]
+#[derive(Clone, Copy)]
 pub(crate) struct Statement {
     /// Who says it: the sender of the interchange that holds the answer.
     pub from: Party,
@@ -33,7 +33,7 @@ pub(crate) struct Statement {
 }
 
 /// What a piece of evidence is for the ledger that planned it, the pieces before it counted.
-#[derive(Clone, Copy, Debug, PartialEq, Eq)]
+#[derive(Clone, Copy, PartialEq, Eq)]
 pub(crate) enum Finding {
     /// The set is pending: the piece settles it.
     Settles,
@@ -47,7 +47,7 @@ pub(crate) enum Finding {
 
 /// A statement, or none where nothing that was submitted is answered, and what it is for the
 /// ledger.
-#[derive(Clone, Copy, Debug)]
+#[derive(Clone, Copy)]
 pub(crate) struct Piece {
     pub statement: Option<Statement>,
     pub finding: Finding,
@@ -57,7 +57,6 @@ pub(crate) struct Piece {
 /// ([`OpenSet::settle`](crate::OpenSet::settle)), or is counted ([`Evidence::shelve`]). It has no
 /// `Drop`, so it can't be let go otherwise.
 #[must_use]
-#[derive(Debug)]
 pub struct Evidence {
     pub(crate) piece: Piece,
 }

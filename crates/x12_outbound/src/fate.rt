@@ -15,7 +15,7 @@ pub enum Fate {
 }
 
 /// How a transaction set ends: the fate that evidence tells.
-#[derive(Clone, Copy, Debug, PartialEq, Eq)]
+#[derive(Clone, Copy, PartialEq, Eq)]
 pub(crate) enum FinalFate {
     /// It was accepted.
     Accepted,

@@ -8,7 +8,7 @@ use x12_envelopes::Party;
 
 /// The hubs whose TA1s a sender believes: its own, and the one that this is connected to, if there
 /// is one.
-#[derive(Clone, Copy, Debug)]
+#[derive(Clone, Copy)]
 pub struct Hubs {
     /// The sender's hub.
     pub hub: Party,

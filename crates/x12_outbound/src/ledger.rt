@@ -34,7 +34,7 @@ use x12_envelopes::Party;
 ///
 /// A transaction set in it is pending until one piece of evidence that names it closes it, and its
 /// fate never changes again.
-#[derive(Debug, Drop)]
+#[derive(Drop)]
 pub struct Ledger {
     pub(crate) alloc: Global,
     pub(crate) me: Party,

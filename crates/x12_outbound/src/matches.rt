@@ -31,7 +31,7 @@ use x12_acks::{Answer, AnswerCode};
 use x12_envelopes::{AcknowledgmentCode, Party, SetNo};
 
 /// The parties that matching looks at: the sender of what was submitted, its hubs, and who answers.
-#[derive(Clone, Copy, Debug)]
+#[derive(Clone, Copy)]
 pub(crate) struct Parties {
     pub me: Party,
     pub hubs: Hubs,

@@ -15,7 +15,6 @@ use x12_envelopes::{Party, SetNo};
 /// A pending transaction set that a ledger lifted, to be settled. It has no `Drop`: it is closed by
 /// evidence that names it, or goes back to its ledger.
 #[must_use]
-#[derive(Debug)]
 pub struct OpenSet {
     pub(crate) key: SetKey,
     pub(crate) receiver: Party,
@@ -27,7 +26,6 @@ pub struct OpenSet {
 
 /// A transaction set with its final fate. It has no `Drop`: it goes back to its ledger.
 #[must_use]
-#[derive(Debug)]
 pub struct ClosedSet {
     pub(crate) key: SetKey,
     pub(crate) fate: FinalFate,

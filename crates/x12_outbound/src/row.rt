@@ -24,14 +24,14 @@ use x12_acks::SetKey;
 use x12_envelopes::Party;
 
 /// A submitted interchange, and its schedule.
-#[derive(Debug, Drop)]
+#[derive(Drop)]
 pub(crate) struct Row {
     pub entry: Entry,
     pub schedule: Schedule,
 }
 
 /// What is done to the row of a transaction set.
-#[derive(Clone, Copy, Debug)]
+#[derive(Clone, Copy)]
 pub(crate) enum Change {
     /// It is lifted, to be settled.
     Lift,

@@ -6,7 +6,7 @@ ghost use Rattle.x12_outbound.specs.Schedule.{unsent_schedule, sent_at, wait_aft
 use crate::evidence::counted;
 
 /// How often an interchange was sent since its ledger was made, and when it is due again.
-#[derive(Clone, Copy, Debug)]
+#[derive(Clone, Copy)]
 pub(crate) struct Schedule {
     /// How often it was sent; stays at `u64::MAX`.
     pub sendings: u64,

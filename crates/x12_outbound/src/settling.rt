@@ -13,7 +13,6 @@ use x12_acks::SetKey;
 /// The evidence that the answers of an interchange bring to a ledger, and what each piece of it is
 /// there. It has no `Drop`: its ledger settles by it, or it is taken apart, or it is abandoned.
 #[must_use]
-#[derive(Debug)]
 pub struct Settling {
     pieces: Vec<Piece>,
     used: usize,

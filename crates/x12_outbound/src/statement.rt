@@ -18,7 +18,7 @@ use x12_acks::{AnswerCode, SetKey};
 use x12_envelopes::{Party, SetNo};
 
 /// What names the transaction sets of a group.
-#[derive(Clone, Copy, Debug)]
+#[derive(Clone, Copy)]
 pub(crate) enum NamedBy {
     /// A TA1: the interchange.
     Interchange,
@@ -27,7 +27,7 @@ pub(crate) enum NamedBy {
 }
 
 /// A functional group that an answer is about: who answers, and where the group stands.
-#[derive(Clone, Copy, Debug)]
+#[derive(Clone, Copy)]
 pub(crate) struct Origin {
     /// The sender of the answer.
     pub from: Party,

@@ -26,7 +26,7 @@ use x12_envelopes::{
 use x12_numbers::Book;
 
 /// Why an interchange may not be submitted: the first row of the table that holds.
-#[derive(Clone, Copy, Debug)]
+#[derive(Clone, Copy)]
 pub enum SubmitFault {
     /// S1. The receiver (ISA07, ISA08) is the sender itself.
     OwnAddress,

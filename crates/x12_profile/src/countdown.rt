@@ -5,11 +5,11 @@ ghost use Rattle.x12_numbers.specs.Count.{failed_in_all};
 ghost use Rattle.x12_profile.specs.Stop.{CountsFailures};
 
 /// The call whose turn it was to fail.
-#[derive(Clone, Copy, Debug, PartialEq, Eq)]
+#[derive(Clone, Copy, PartialEq, Eq)]
 pub struct CountedDown;
 
 /// A number of calls that pass, one that fails, and calls that pass for good.
-#[derive(Clone, Copy, Debug, PartialEq, Eq)]
+#[derive(Clone, Copy, PartialEq, Eq)]
 pub struct Countdown {
     /// How many calls pass before the one that fails; `None` once it failed.
     pub passes: Option<u64>,

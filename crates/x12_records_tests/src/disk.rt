@@ -53,7 +53,7 @@ impl Stops for Stopping {
 }
 
 /// When both files stop: after so many calls of each.
-#[derive(Clone, Copy, Debug)]
+#[derive(Clone, Copy)]
 pub(crate) struct Stop {
     /// Of the log.
     pub(crate) log: u64,

@@ -19,7 +19,7 @@ use x12_inbound::{Filed, Posting};
 pub(crate) type ArrivalKey = ([u8; 2], [u8; 15], u32);
 
 /// What is filed, under its number among submissions and first arrivals.
-#[derive(Debug, Drop)]
+#[derive(Drop)]
 pub(crate) struct NumberedArrival {
     pub seq: u64,
     pub filed: Filed,

@@ -16,7 +16,7 @@ use x12_outbound::{Counts, Hubs, Ledger};
 
 /// What a station keeps in memory: of its records the numbers, the agreements and the open
 /// submissions; and what a restart forgets.
-#[derive(Debug, Drop)]
+#[derive(Drop)]
 pub(crate) struct Cached {
     pub alloc: Global,
     /// The station's party.

@@ -11,7 +11,7 @@ use x12_outbound::{Entry, Fate};
 use x12_profile::{Countdown, CountedDown};
 
 /// Records that pass a number of calls on, answer the next as a failed device would, and go on.
-#[derive(Debug, Drop)]
+#[derive(Drop)]
 pub struct Failing<R> {
     records: R,
     countdown: Countdown,

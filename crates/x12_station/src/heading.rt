@@ -17,7 +17,7 @@ use std::alloc::{AllocError, Global};
 use x12_envelopes::{Envelope, GroupEnvelope, Moment, Party, SetEnvelope, zero_padded};
 
 /// What stands in digits in GS and ST of orders.
-#[derive(Debug, Drop)]
+#[derive(Drop)]
 pub(crate) struct Digits {
     /// GS04, CCYYMMDD.
     date: [u8; 8],
@@ -86,7 +86,7 @@ fn sets_of<'a>(
 }
 
 /// What stands in the control segments of orders.
-#[derive(Clone, Copy, Debug)]
+#[derive(Clone, Copy)]
 pub(crate) struct Heading<'a> {
     pub me: &'a Party,
     pub to: &'a Party,

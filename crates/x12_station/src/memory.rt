@@ -39,7 +39,7 @@ use x12_outbound::{Entry, Fate};
 /// its numbers or by that of a group, an arrival by its number or by its partner's, and a posting by
 /// its place, without a walk over what is held. Loading, listing the postings and finding one by its
 /// key walk it.
-#[derive(Debug, Drop)]
+#[derive(Drop)]
 pub struct MemoryRecords {
     alloc: Global,
     owner: Owner,

@@ -11,7 +11,6 @@ use x12_numbers::Book;
 use x12_outbound::{Entry, Fate};
 
 /// One change of a station's records. It has no `Drop`, since what is kept of an arrival has none.
-#[derive(Debug)]
 pub enum Change {
     /// An interchange is submitted under the next number; each of its sets is pending.
     Submitted(Entry),
@@ -33,7 +32,6 @@ pub enum Change {
 /// entry that it submits has a transaction set. It has no `Drop`: a commit takes it
 /// ([`Records::commit`](crate::Records::commit)), or gives it back.
 #[must_use]
-#[derive(Debug)]
 pub struct Planned {
     book: Book,
     seq: u64,
@@ -42,13 +40,12 @@ pub struct Planned {
 
 /// A plan that was committed. It has no `Drop`: the station that planned it takes it in.
 #[must_use]
-#[derive(Debug)]
 pub struct Committed {
     plan: Planned,
 }
 
 /// What a plan is to write.
-#[derive(Debug, Clone, Copy)]
+#[derive(Clone, Copy)]
 pub struct PlanView<'a> {
     /// The last control numbers that the station used.
     pub book: Book,

@@ -17,7 +17,7 @@ use x12_outbound::{Entry, Submittable};
 pub(crate) const LAST_ITEM: u64 = 9_223_372_036_854_775_807;
 
 /// An interchange that may be submitted: its entry, and the last control numbers once it is entered.
-#[derive(Debug, Drop)]
+#[derive(Drop)]
 pub(crate) struct Prepared {
     pub entry: Entry,
     pub book: Book,

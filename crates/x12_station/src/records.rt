@@ -40,7 +40,7 @@ pub enum StoreFault {
 }
 
 /// What a station keeps in memory of its records.
-#[derive(Debug, Drop)]
+#[derive(Drop)]
 pub struct Loaded {
     /// The last control numbers.
     pub book: Book,
@@ -53,7 +53,7 @@ pub struct Loaded {
 }
 
 /// Whose the records of a station are.
-#[derive(Clone, Copy, Debug)]
+#[derive(Clone, Copy)]
 pub struct Owner {
     /// The station's party.
     pub party: Party,
@@ -86,7 +86,7 @@ impl Owner {
 }
 
 /// A submission or a first arrival, as it is kept.
-#[derive(Debug, Drop)]
+#[derive(Drop)]
 pub enum Item {
     /// It was submitted: its bytes from ISA through IEA.
     Submitted(Vec<u8>),

@@ -28,7 +28,6 @@ use x12_numbers::Book;
 /// What is to be kept of a new arrival, the reply that is sent, and the last control numbers then. It
 /// has no `Drop`: what is kept is filed, or given up.
 #[must_use]
-#[derive(Debug)]
 pub(crate) struct Draft {
     pub kept: Kept,
     pub reply: Option<Vec<u8>>,

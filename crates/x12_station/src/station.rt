@@ -9,7 +9,6 @@ use std::marker::Model;
 ///
 /// What its calls promise of its state holds while its records answer. What it has in memory a
 /// refused call leaves as it was, whether they answer or not.
-#[derive(Debug)]
 pub struct Station<R: Records> {
     pub(crate) records: R,
     pub(crate) memory: Cached,

@@ -14,7 +14,7 @@ use x12_acks::SetKey;
 use x12_outbound::{Entry, EntryGroup, EntrySet, Fate};
 
 /// A submitted interchange, under its number among submissions and first arrivals.
-#[derive(Debug, Drop)]
+#[derive(Drop)]
 pub(crate) struct NumberedEntry {
     pub seq: u64,
     pub entry: Entry,

@@ -1,7 +1,7 @@
 //! How the run of a script ends.
 
 /// How the run of a script that was not stopped ended.
-#[derive(Clone, Copy, Debug, PartialEq, Eq)]
+#[derive(Clone, Copy, PartialEq, Eq)]
 pub enum ScriptStatus {
     /// Each line was carried out, and no line of a report that was written says `BAD`.
     Done,

@@ -7,7 +7,7 @@ use x12_station::{StationFault, StoreFault};
 
 /// The first place where records aren't what the history in them tells. A number is that of a
 /// submission or first arrival, from 1.
-#[derive(Clone, Copy, Debug)]
+#[derive(Clone, Copy)]
 pub enum Difference {
     /// They name a party that no station can have, or a number up to which arrivals are read
     /// otherwise.
@@ -46,7 +46,7 @@ pub enum Difference {
 }
 
 /// How much was found sound.
-#[derive(Clone, Copy, Debug)]
+#[derive(Clone, Copy)]
 pub struct Sound {
     /// How many interchanges were submitted.
     pub submitted: u64,
@@ -57,7 +57,7 @@ pub struct Sound {
 }
 
 /// What is told of records.
-#[derive(Clone, Copy, Debug)]
+#[derive(Clone, Copy)]
 pub enum Outcome {
     /// They are what their station wrote.
     Sound(Sound),

@@ -5,7 +5,7 @@ use x12_envelopes::Moment;
 
 /// What happens, and at which node: 0 and 17 are hubs, 1 to 16 are stations. What writes carries its
 /// moment.
-#[derive(Debug, Drop)]
+#[derive(Drop)]
 pub enum Event {
     /// A node does something of itself.
     At {

@@ -13,7 +13,6 @@ use x12_envelopes::Party;
 use x12_hub::{Hub, HubRecords};
 
 /// The hubs of a network, and at which of them its stations are.
-#[derive(Debug)]
 pub(crate) struct Hubs<H: HubRecords> {
     /// The hub of node 0.
     pub first: Hub<H>,

@@ -3,7 +3,7 @@
 use x12_core::{Kind, PacketName};
 
 /// A packet as it is told of: without what it carries.
-#[derive(Clone, Copy, Debug, PartialEq, Eq)]
+#[derive(Clone, Copy, PartialEq, Eq)]
 pub struct ToldPacket {
     /// Its name.
     pub name: PacketName,
@@ -14,7 +14,7 @@ pub struct ToldPacket {
 }
 
 /// What became of an event that was taken.
-#[derive(Debug, Drop)]
+#[derive(Drop)]
 pub struct Outcome {
     /// The number of the event, from 1.
     pub event: u64,

@@ -30,7 +30,6 @@ use x12_station::{Records, Station};
 ///
 /// What a call promises of a node holds while the records of that node answer; what is said of the whole
 /// network, while those of all do.
-#[derive(Debug)]
 pub struct World<R: Records, H: HubRecords> {
     pub(crate) alloc: Global,
     pub(crate) hubs: Hubs<H>,
