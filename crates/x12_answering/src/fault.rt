@@ -6,7 +6,6 @@ ghost use Rattle.x12_answering.specs.declared.fault.RunFault.TheVariants.{Memory
 use std::alloc::{AllocError, AllocFailed};
 use std::error::Error;
 use std::fmt;
-use thiserror::Error;
 
 /// How a run that was not stopped ended.
 #[derive(Clone, Copy, Debug, PartialEq, Eq)]
@@ -18,21 +17,30 @@ pub enum RunStatus {
 }
 
 /// Why a run stops.
-#[derive(Clone, Copy, Debug, PartialEq, Eq, Error)]
+#[derive(Clone, Copy, Debug, PartialEq, Eq)]
 pub enum RunFault {
     /// A read failed, or more than 1,000 reads were interrupted. Nothing was written.
-    #[error("the input can't be read")]
     Read,
     /// A write failed. What was written before stays.
-    #[error("the output can't be written")]
     Write,
     /// The input has more than 16,777,216 bytes. Nothing was written.
-    #[error("the input is longer than 16,777,216 bytes")]
     TooLong,
     /// Want of memory. What was written before stays.
-    #[error("there is not enough memory")]
     Memory,
 }
+
+impl fmt::Display for RunFault {
+    fn fmt<W: fmt::Write>(&self, f: &mut fmt::Formatter<W>) -> fmt::Result {
+        f.write_str(match *self {
+            RunFault::Read => "the input can't be read",
+            RunFault::Write => "the output can't be written",
+            RunFault::TooLong => "the input is longer than 16,777,216 bytes",
+            RunFault::Memory => "there is not enough memory",
+        })
+    }
+}
+
+impl Error for RunFault {}
 
 impl From<AllocError> for RunFault {
     ghost from_gives = { λ _ e. e ≡ Memory };

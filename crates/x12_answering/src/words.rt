@@ -18,7 +18,6 @@ use crate::options::Options;
 use std::alloc::{AllocError, AllocFailed, Global};
 use std::error::Error;
 use std::fmt;
-use thiserror::Error;
 use x12_envelopes::{Moment, Party, is_date, is_time, number_of};
 
 /// The words that give the options.
@@ -39,30 +38,39 @@ pub struct OptionWords<'a> {
 }
 
 /// Why words give no options: the first that holds.
-#[derive(Clone, Copy, Debug, PartialEq, Eq, Error)]
+#[derive(Clone, Copy, Debug, PartialEq, Eq)]
 pub enum OptionFault {
     /// `me` isn't the address of a plain party.
-    #[error("--me wants a qualifier of 2 and an identifier of 2 to 15 capital letters or digits, as ZZBETA")]
     Me,
     /// `icn` isn't a control number.
-    #[error("--icn wants a number from 1 to 999999999, in one to nine digits")]
     Icn,
     /// `gcn` isn't a control number.
-    #[error("--gcn wants a number from 1 to 999999999, in one to nine digits")]
     Gcn,
     /// `date` isn't a date.
-    #[error("--date wants a date as CCYYMMDD, as 20250102")]
     Date,
     /// `time` isn't a time of day.
-    #[error("--time wants a time of day as HHMM, as 0931")]
     Time,
     /// One of `pairs` isn't a pair.
-    #[error("PAIR wants five capital letters or digits, GS01 then ST01, as PO850")]
     Pair,
     /// Want of memory.
-    #[error("there is not enough memory")]
     Memory,
 }
+
+impl fmt::Display for OptionFault {
+    fn fmt<W: fmt::Write>(&self, f: &mut fmt::Formatter<W>) -> fmt::Result {
+        f.write_str(match *self {
+            OptionFault::Me => "--me wants a qualifier of 2 and an identifier of 2 to 15 capital letters or digits, as ZZBETA",
+            OptionFault::Icn => "--icn wants a number from 1 to 999999999, in one to nine digits",
+            OptionFault::Gcn => "--gcn wants a number from 1 to 999999999, in one to nine digits",
+            OptionFault::Date => "--date wants a date as CCYYMMDD, as 20250102",
+            OptionFault::Time => "--time wants a time of day as HHMM, as 0931",
+            OptionFault::Pair => "PAIR wants five capital letters or digits, GS01 then ST01, as PO850",
+            OptionFault::Memory => "there is not enough memory",
+        })
+    }
+}
+
+impl Error for OptionFault {}
 
 impl From<AllocError> for OptionFault {
     ghost from_gives = { λ _ e. e ≡ Memory };

@@ -11,7 +11,8 @@ ghost use Rattle.x12_envelopes.specs.Header.{elements_are_fields, header_of, del
 use crate::byte::{are_digits, field, value_of};
 use crate::delimiters::Delims;
 use crate::party::Party;
-use thiserror::Error;
+use std::error::Error;
+use std::fmt;
 
 /// What ISA says of an interchange. Bytes that aren't checked here are checked by the judgement.
 #[derive(Clone, Copy, Debug, PartialEq, Eq)]
@@ -39,24 +40,33 @@ pub struct Header {
 }
 
 /// Why bytes have no interchange header: the first that holds.
-#[derive(Clone, Copy, Debug, PartialEq, Eq, Error)]
+#[derive(Clone, Copy, Debug, PartialEq, Eq)]
 pub enum HeaderFault {
     /// H1. More than 1,048,576 bytes.
-    #[error("the interchange has more than 1048576 bytes")]
     TooLong,
     /// H2. Fewer than the 106 bytes of a header.
-    #[error("the interchange has fewer than the 106 bytes of a header")]
     TooShort,
     /// H3. No `ISA` in front, or an element separator that isn't in its place.
-    #[error("the header does not begin with ISA, or an element separator is not in its place")]
     NotIsa,
     /// H4. Delimiters that are equal, a letter, a digit or a space; or a separator that is CR, LF.
-    #[error("the header's delimiters are equal, or one of them can not delimit")]
     BadDelimiters,
     /// H5. A delimiter or a control byte inside a field, or an ISA13 that isn't nine digits.
-    #[error("a field of the header holds a delimiter or a control byte, or ISA13 is no number")]
     BadField,
 }
+
+impl fmt::Display for HeaderFault {
+    fn fmt<W: fmt::Write>(&self, f: &mut fmt::Formatter<W>) -> fmt::Result {
+        f.write_str(match *self {
+            HeaderFault::TooLong => "the interchange has more than 1048576 bytes",
+            HeaderFault::TooShort => "the interchange has fewer than the 106 bytes of a header",
+            HeaderFault::NotIsa => "the header does not begin with ISA, or an element separator is not in its place",
+            HeaderFault::BadDelimiters => "the header's delimiters are equal, or one of them can not delimit",
+            HeaderFault::BadField => "a field of the header holds a delimiter or a control byte, or ISA13 is no number",
+        })
+    }
+}
+
+impl Error for HeaderFault {}
 
 impl HeaderFault {
     /// The fault's number: `H1` to `H5`.

@@ -5,62 +5,69 @@ ghost use Rattle.x12_station.specs.Number.{station_fault_number};
 
 use crate::records::StoreFault;
 use std::alloc::{AllocError, AllocFailed};
-use thiserror::Error;
+use std::error::Error;
+use std::fmt;
 use x12_envelopes::{HeaderFault, OutlineFault};
 use x12_outbound::SubmitFault;
 
 /// Why a station refuses: the first row of the event's table that holds.
-#[derive(Clone, Copy, Debug, PartialEq, Eq, Error)]
+#[derive(Clone, Copy, Debug, PartialEq, Eq)]
 pub enum StationFault {
     /// S1. The receiver is this station.
-    #[error("the receiver is this station itself")]
     OwnAddress,
     /// S2. No order, or a functional group without a transaction set.
-    #[error("there is no transaction set to submit, or a functional group has none")]
     Empty,
     /// S3. The receiver's address isn't plain (a qualifier of two capital letters or digits, an
     /// identifier of two to fifteen of them, then spaces); or an order has a segment without
     /// elements, with an empty last element or with an identifier that is empty or reserved (ISA,
     /// GS, ST, SE, GE, IEA, TA1); or an element has a byte below 0x20 or `*`, `:` or `~`.
-    #[error("the receiver's address isn't plain, or an order can't be written as segments")]
     BadText,
     /// S4. Prepared bytes whose ISA can't be read.
-    #[error("the prepared interchange has no header: {0}")]
     BadHeader(HeaderFault),
     /// S5. The sender of prepared bytes isn't this station.
-    #[error("the sender of the prepared interchange isn't this station")]
     NotMine,
     /// S6. Prepared bytes whose segments can't be read.
-    #[error("the prepared interchange can't be read: {0}")]
     Shape(OutlineFault),
     /// S7. Prepared bytes with a TA1 or an FA group: a station writes these itself.
-    #[error("the prepared interchange holds acknowledgments")]
     Acknowledgments,
     /// S8. One transaction set control number (ST02) twice in a group.
-    #[error("a transaction set control number stands twice in a functional group")]
     SetTwice,
     /// S9. More than 400 orders, or an interchange of more than 1,048,576 bytes.
-    #[error("there are more than 400 orders, or more than 1,048,576 bytes")]
     TooLarge,
     /// S10. Control numbers that don't rise above all that were used.
-    #[error("the control numbers aren't above all that were used")]
     NotNew,
     /// S11. No control number up to 999999999 is left, or no number of a submission or arrival.
-    #[error("no control number is left")]
     Exhausted,
     /// S12. Arriving bytes whose ISA can't be read.
-    #[error("what arrived has no header: {0}")]
     Unreadable(HeaderFault),
     /// S13. The records failed: what was asked stands whole or not at all, and the next start tells
     /// which.
-    #[error("the station's records failed: see to the device, then start the station again")]
     Store,
     /// S14. Memory was missing: nothing was done.
-    #[error("memory was missing")]
     Memory,
 }
 
 impl StationFault {
+    /// What a person is told; where it goes on with a fault, all in front of that.
+    fn sentence(&self) -> &'static str {
+        match self {
+            StationFault::OwnAddress => "the receiver is this station itself",
+            StationFault::Empty => "there is no transaction set to submit, or a functional group has none",
+            StationFault::BadText => "the receiver's address isn't plain, or an order can't be written as segments",
+            StationFault::BadHeader(_) => "the prepared interchange has no header: ",
+            StationFault::NotMine => "the sender of the prepared interchange isn't this station",
+            StationFault::Shape(_) => "the prepared interchange can't be read: ",
+            StationFault::Acknowledgments => "the prepared interchange holds acknowledgments",
+            StationFault::SetTwice => "a transaction set control number stands twice in a functional group",
+            StationFault::TooLarge => "there are more than 400 orders, or more than 1,048,576 bytes",
+            StationFault::NotNew => "the control numbers aren't above all that were used",
+            StationFault::Exhausted => "no control number is left",
+            StationFault::Unreadable(_) => "what arrived has no header: ",
+            StationFault::Store => "the station's records failed: see to the device, then start the station again",
+            StationFault::Memory => "memory was missing",
+        }
+    }
+
     /// The fault's number: `S1` to `S14`.
     pub fn number(&self) -> &'static str
         ensures { result.now ≡ station_fault_number self.now }
@@ -83,6 +90,20 @@ impl StationFault {
         }
     }
 }
+
+impl fmt::Display for StationFault {
+    fn fmt<W: fmt::Write>(&self, f: &mut fmt::Formatter<W>) -> fmt::Result {
+        f.write_str(self.sentence())?;
+        match *self {
+            StationFault::BadHeader(fault) => write!(f, "{fault}"),
+            StationFault::Shape(fault) => write!(f, "{fault}"),
+            StationFault::Unreadable(fault) => write!(f, "{fault}"),
+            _ => Ok(()),
+        }
+    }
+}
+
+impl Error for StationFault {}
 
 impl From<AllocError> for StationFault {
     ghost use Rattle.x12_station.specs.declared.fault.StationFault.TheVariants.{Memory};

@@ -6,39 +6,46 @@ ghost use Rattle.x12_core.specs.declared.fault.NodeFault.TheVariants.{OfStation}
 ghost use Rattle.x12_world.specs.declared.refused.Refused.TheVariants.{Memory, Node};
 
 use std::alloc::{AllocError, AllocFailed};
-use thiserror::Error;
+use std::error::Error;
+use std::fmt;
 use x12_core::{CoreFault, NodeFault};
 use x12_station::StationFault;
 
 /// Why a network refuses an event, or isn't made. A refused event takes no number, and leaves the
 /// network as it was.
-#[derive(Clone, Copy, Debug, PartialEq, Eq, Error)]
+#[derive(Clone, Copy, Debug, PartialEq, Eq)]
 pub enum Refused {
     /// V1. No packet of this name is held.
-    #[error("no packet of this name was sent")]
     NoSuchPacket,
     /// V2. Bytes from outside whose readable header (ISA05, ISA06) names a node as their sender.
-    #[error("bytes from outside name a node of the network as their sender")]
     SpokenFor,
     /// V3. The node refuses.
-    #[error("{0}")]
     Node(NodeFault),
     /// V4. There is no node of this number, or it is one of the other kind, or a hub is to serve itself.
-    #[error("there is no such node, or the event is for a node of the other kind")]
     NoSuchNode,
     /// V5. Memory was missing: nothing was done.
-    #[error("memory was missing")]
     Memory,
     /// V6. A network has 1 to 16 stations, each of the network's hubs; no two nodes have one party;
     /// and neither a hub nor a station was asked to do anything yet.
-    #[error("these nodes make no network: see that they are new, of the same hubs, and of different parties")]
     BadNetwork,
     /// V7. The next event would have the number 18446744073709551615.
-    #[error("no number is left for an event")]
     Exhausted,
 }
 
 impl Refused {
+    /// What a person is told; nothing where the node says it.
+    fn sentence(&self) -> &'static str {
+        match self {
+            Refused::NoSuchPacket => "no packet of this name was sent",
+            Refused::SpokenFor => "bytes from outside name a node of the network as their sender",
+            Refused::Node(_) => "",
+            Refused::NoSuchNode => "there is no such node, or the event is for a node of the other kind",
+            Refused::Memory => "memory was missing",
+            Refused::BadNetwork => "these nodes make no network: see that they are new, of the same hubs, and of different parties",
+            Refused::Exhausted => "no number is left for an event",
+        }
+    }
+
     /// The refusal's number: `V1` to `V7`.
     pub fn number(&self) -> &'static str
         ensures { result.now ≡ refused_number self.now }
@@ -54,6 +61,18 @@ impl Refused {
         }
     }
 }
+
+impl fmt::Display for Refused {
+    fn fmt<W: fmt::Write>(&self, f: &mut fmt::Formatter<W>) -> fmt::Result {
+        f.write_str(self.sentence())?;
+        match *self {
+            Refused::Node(fault) => write!(f, "{fault}"),
+            _ => Ok(()),
+        }
+    }
+}
+
+impl Error for Refused {}
 
 impl From<StationFault> for Refused {
     ghost from_gives = { λ fault e. e ≡ Node (OfStation fault) };
