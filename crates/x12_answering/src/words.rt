@@ -59,12 +59,14 @@ pub enum OptionFault {
 impl fmt::Display for OptionFault {
     fn fmt<W: fmt::Write>(&self, f: &mut fmt::Formatter<W>) -> fmt::Result {
         f.write_str(match *self {
-            OptionFault::Me => "--me wants a qualifier of 2 and an identifier of 2 to 15 capital letters or digits, as ZZBETA",
+            OptionFault::Me =>
+                "--me wants a qualifier of 2 and an identifier of 2 to 15 capital letters or digits, as ZZBETA",
             OptionFault::Icn => "--icn wants a number from 1 to 999999999, in one to nine digits",
             OptionFault::Gcn => "--gcn wants a number from 1 to 999999999, in one to nine digits",
             OptionFault::Date => "--date wants a date as CCYYMMDD, as 20250102",
             OptionFault::Time => "--time wants a time of day as HHMM, as 0931",
-            OptionFault::Pair => "PAIR wants five capital letters or digits, GS01 then ST01, as PO850",
+            OptionFault::Pair =>
+                "PAIR wants five capital letters or digits, GS01 then ST01, as PO850",
             OptionFault::Memory => "there is not enough memory",
         })
     }

@@ -59,9 +59,12 @@ impl fmt::Display for HeaderFault {
         f.write_str(match *self {
             HeaderFault::TooLong => "the interchange has more than 1048576 bytes",
             HeaderFault::TooShort => "the interchange has fewer than the 106 bytes of a header",
-            HeaderFault::NotIsa => "the header does not begin with ISA, or an element separator is not in its place",
-            HeaderFault::BadDelimiters => "the header's delimiters are equal, or one of them can not delimit",
-            HeaderFault::BadField => "a field of the header holds a delimiter or a control byte, or ISA13 is no number",
+            HeaderFault::NotIsa =>
+                "the header does not begin with ISA, or an element separator is not in its place",
+            HeaderFault::BadDelimiters =>
+                "the header's delimiters are equal, or one of them can not delimit",
+            HeaderFault::BadField =>
+                "a field of the header holds a delimiter or a control byte, or ISA13 is no number",
         })
     }
 }

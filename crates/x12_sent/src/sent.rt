@@ -51,13 +51,12 @@ impl<'a> SentInterchange<'a> {
         ensures set { IfSome result (λ s.
             at_place set s.group.now.sets.items ≡ Some s.set.now) }
     {
-        let segments = at(set, at(group, &self.segments)?)?;
-        let group = at(group, &self.groups)?;
-        let set = at(set, &group.sets)?;
+        let found = at(group, &self.groups)?;
+        let segments = at(group, &self.segments)?;
         Some(SentSet {
-            group,
-            set,
-            segments,
+            group: found,
+            set: at(set, &found.sets)?,
+            segments: at(set, segments)?,
         })
     }
 }

@@ -52,18 +52,23 @@ impl StationFault {
     fn sentence(&self) -> &'static str {
         match self {
             StationFault::OwnAddress => "the receiver is this station itself",
-            StationFault::Empty => "there is no transaction set to submit, or a functional group has none",
-            StationFault::BadText => "the receiver's address isn't plain, or an order can't be written as segments",
+            StationFault::Empty =>
+                "there is no transaction set to submit, or a functional group has none",
+            StationFault::BadText =>
+                "the receiver's address isn't plain, or an order can't be written as segments",
             StationFault::BadHeader(_) => "the prepared interchange has no header: ",
             StationFault::NotMine => "the sender of the prepared interchange isn't this station",
             StationFault::Shape(_) => "the prepared interchange can't be read: ",
             StationFault::Acknowledgments => "the prepared interchange holds acknowledgments",
-            StationFault::SetTwice => "a transaction set control number stands twice in a functional group",
-            StationFault::TooLarge => "there are more than 400 orders, or more than 1,048,576 bytes",
+            StationFault::SetTwice =>
+                "a transaction set control number stands twice in a functional group",
+            StationFault::TooLarge =>
+                "there are more than 400 orders, or more than 1,048,576 bytes",
             StationFault::NotNew => "the control numbers aren't above all that were used",
             StationFault::Exhausted => "no control number is left",
             StationFault::Unreadable(_) => "what arrived has no header: ",
-            StationFault::Store => "the station's records failed: see to the device, then start the station again",
+            StationFault::Store =>
+                "the station's records failed: see to the device, then start the station again",
             StationFault::Memory => "memory was missing",
         }
     }

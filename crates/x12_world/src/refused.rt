@@ -39,9 +39,11 @@ impl Refused {
             Refused::NoSuchPacket => "no packet of this name was sent",
             Refused::SpokenFor => "bytes from outside name a node of the network as their sender",
             Refused::Node(_) => "",
-            Refused::NoSuchNode => "there is no such node, or the event is for a node of the other kind",
+            Refused::NoSuchNode =>
+                "there is no such node, or the event is for a node of the other kind",
             Refused::Memory => "memory was missing",
-            Refused::BadNetwork => "these nodes make no network: see that they are new, of the same hubs, and of different parties",
+            Refused::BadNetwork =>
+                "these nodes make no network: see that they are new, of the same hubs, and of different parties",
             Refused::Exhausted => "no number is left for an event",
         }
     }
