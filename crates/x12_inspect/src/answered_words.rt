@@ -38,7 +38,7 @@ fn say_group(out: &mut Text, delims: &Delims, set: &SetView<'_>) {
 fn say_pointed(out: &mut Text, at: Pointed<'_>) {
     match at {
         None => {}
-        Some(None) => out.say(", not sent"),
+        Some(None) => say!(out; ", not sent"),
         Some(Some(bytes)) => say!(out; ", sent \"", bytes, "\""),
     }
 }
@@ -148,7 +148,7 @@ pub(crate) fn say_answers(
     out.interchange(at.place, Some(at.header));
     out.say("\n");
     if answers.is_empty() {
-        return out.say("  no acknowledgment\n");
+        return say!(out; "  no acknowledgment\n");
     }
     let mut name = "";
     if let Some(sent) = sent {

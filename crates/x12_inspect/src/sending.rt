@@ -45,10 +45,10 @@ fn say_empty(words: &mut Text, read: &Outline<'_>) {
     for (index, group) in read.groups.iter().enumerate() {
         if group.sets.is_empty() {
             say_group(words, index, group);
-            return words.say(": no set");
+            return say!(words; ": no set");
         }
     }
-    words.say("no group");
+    say!(words; "no group");
 }
 
 /// The first of these sets whose control number a set behind it has, and its place, from 1.

@@ -28,8 +28,8 @@ fn say_compared(out: &mut Text, compared: &Compared<'_>) {
 fn say_placed(out: &mut Text, offset: usize, placed: &Placed<'_>) {
     say!(out; Filled(b"        ", offset.saturating_add(placed.at) as u64), " ");
     match placed.position {
-        Some(position) => out.say(Filled(b"     ", position as u64)),
-        None => out.say("     "),
+        Some(position) => say!(out; Filled(b"     ", position as u64)),
+        None => say!(out; "     "),
     }
     out.say(match placed.depth {
         0 => "  ",
