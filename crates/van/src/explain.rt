@@ -6,7 +6,7 @@ use clap::ArgMatches;
 use command_table::{Kind, Row, Word};
 use std::process::ExitCode;
 use x12_envelopes::Party;
-use x12_inspect::{Explained, Outcome, Style, read_sent, run_explain, run_pending};
+use x12_inspect::{Outcome, Style, read_sent, run_explain, run_pending};
 use x12_sent::SentFile;
 use x12_words::{FAMILIES, Wording, find_wording, split_code, wordings};
 
@@ -64,12 +64,18 @@ pub(crate) fn row() -> Row {
 
 /// Writes a code of a family, what it says, and what to do.
 fn print_wording(rt: &HostRuntime, family: &str, w: &Wording) -> Result<()> {
-    if w.code().starts_with(family) {
-        println!(rt; "{}: {}", w.code(), w.words())?;
+    let front = if w.code().starts_with(family) {
+        ""
     } else {
-        println!(rt; "{family}/{}: {}", w.code(), w.words())?;
-    }
-    println!(rt; "  {}", w.action())?;
+        family
+    };
+    let slash = if front.is_empty() { "" } else { "/" };
+    println!(rt;
+        "{front}{slash}{}: {}\n  {}",
+        w.code(),
+        w.words(),
+        w.action()
+    )?;
     Ok(())
 }
 
@@ -105,18 +111,21 @@ fn explain_code(rt: &HostRuntime, code: &str) -> Result<ExitCode> {
     Ok(ExitCode::SUCCESS)
 }
 
-/// Explains one input, beside what was sent; `None` where the run stopped, as standard error says then.
-fn explain<'f>(
+/// Explains one input, beside what was sent; `None` where the run stopped, as standard error says then,
+/// and what was sent is gone.
+fn explain(
     rt: &HostRuntime,
     style: &Style<'_>,
-    sent: Option<SentFile<'f>>,
-) -> Result<Option<Explained<'f>>> {
-    let outcome = Outcome::SomethingWrong;
+    sent: &mut Option<SentFile<'_>>,
+) -> Result<Option<Outcome>> {
     let Some(input) = files::read(rt, style.file)? else {
-        return Ok(Some(Explained { outcome, sent }));
+        return Ok(Some(Outcome::SomethingWrong));
     };
-    match run_explain(rt.alloc(), style, &input, sent, &mut rt.stdout()) {
-        Ok(explained) => Ok(Some(explained)),
+    match run_explain(rt.alloc(), style, &input, sent.take(), &mut rt.stdout()) {
+        Ok(explained) => {
+            *sent = explained.sent;
+            Ok(Some(explained.outcome))
+        }
         Err(fault) => {
             files::told(rt, style.file, Err(fault))?;
             Ok(None)
@@ -125,31 +134,35 @@ fn explain<'f>(
 }
 
 /// Explains each input, beside the file that was sent, where it is given.
-fn explain_all<'f>(
+fn explain_all(
     rt: &HostRuntime,
     style: &Style<'_>,
     words: &[&str],
-    sent: Option<SentFile<'f>>,
-) -> Result<Explained<'f>> {
+    sent: &mut Option<SentFile<'_>>,
+) -> Result<Outcome> {
     let named = files::named(rt.alloc(), words)?;
-    let mut all = Explained {
-        outcome: Outcome::AllRight,
-        sent,
-    };
+    let mut outcome = Outcome::AllRight;
     for file in &named {
         files::head(rt, style.form, &named, file)?;
-        let Some(one) = explain(rt, &Style { file, ..*style }, all.sent)? else {
-            return Ok(Explained {
-                outcome: Outcome::SomethingWrong,
-                sent: None,
-            });
+        let Some(one) = explain(rt, &Style { file, ..*style }, sent)? else {
+            return Ok(Outcome::SomethingWrong);
         };
-        all = Explained {
-            outcome: files::both(all.outcome, one.outcome),
-            sent: one.sent,
-        };
+        outcome = files::both(outcome, one);
     }
-    Ok(all)
+    Ok(outcome)
+}
+
+/// Says which sets of a file that was sent stay pending, and gives what else was found.
+fn tell_pending(
+    rt: &HostRuntime,
+    style: &Style<'_>,
+    sent: &SentFile<'_>,
+    outcome: Outcome,
+) -> Result<Outcome> {
+    match run_pending(rt.alloc(), style, sent, &mut rt.stdout()) {
+        Ok(()) => Ok(outcome),
+        Err(fault) => files::told(rt, style.file, Err(fault)),
+    }
 }
 
 /// Explains each input beside what was sent in a file, and says which of its sets stay pending.
@@ -160,19 +173,16 @@ fn explain_beside<'a>(
     input: &'a [u8],
     words: &[&str],
 ) -> Result<Outcome> {
-    let alloc = rt.alloc();
-    let (sent, right) = match read_sent(alloc, style, hub, input, &mut rt.stdout()) {
+    let (sent, right) = match read_sent(rt.alloc(), style, hub, input, &mut rt.stdout()) {
         Ok(read) => read,
         Err(fault) => return files::told(rt, style.file, Err(fault)),
     };
-    let all = explain_all(rt, style, words, Some(sent))?;
-    let outcome = files::both(Outcome::of(right), all.outcome);
-    let Some(sent) = &all.sent else {
-        return Ok(outcome);
-    };
-    match run_pending(alloc, style, sent, &mut rt.stdout()) {
-        Ok(()) => Ok(outcome),
-        Err(fault) => files::told(rt, style.file, Err(fault)),
+    let mut sent = Some(sent);
+    let all = explain_all(rt, style, words, &mut sent)?;
+    let outcome = files::both(Outcome::of(right), all);
+    match &sent {
+        Some(sent) => tell_pending(rt, style, sent, outcome),
+        None => Ok(outcome),
     }
 }
 
@@ -190,25 +200,30 @@ fn explain_of(
     explain_beside(rt, &style, hub, &input, words)
 }
 
+/// Explains each input, beside the file that was sent, where the command line names one.
+fn explain_files(rt: &HostRuntime, found: &ArgMatches<'_>, hub: Option<Party>) -> Result<Outcome> {
+    let words = found.get_strs("files").unwrap_or(&[]);
+    let of = found.get_str("of");
+    let style = Style {
+        form: files::form(found),
+        look: color::look(rt, found),
+        file: of.unwrap_or("-"),
+    };
+    if of.is_some() {
+        return explain_of(rt, &style, hub, words);
+    }
+    explain_all(rt, &style, words, &mut None)
+}
+
 /// Runs the subcommand, and gives its exit status.
 pub fn run(rt: &HostRuntime, found: &ArgMatches<'_>) -> Result<ExitCode> {
     if let Some(code) = found.get_str("code") {
         return explain_code(rt, code);
     }
-    let words = found.get_strs("files").unwrap_or(&[]);
     let hub = found.get_str("hub");
     let named = hub.and_then(parties::read_party);
     if hub.is_some() && named.is_none() {
         return parties::refuse(rt, "--hub", "ZZHUB");
     }
-    let style = Style {
-        form: files::form(found),
-        look: color::look(rt, found),
-        file: found.get_str("of").unwrap_or("-"),
-    };
-    let outcome = match found.get_str("of") {
-        Some(_) => explain_of(rt, &style, named, words)?,
-        None => explain_all(rt, &style, words, None)?.outcome,
-    };
-    Ok(files::status(outcome))
+    Ok(files::status(explain_files(rt, found, named)?))
 }

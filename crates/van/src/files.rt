@@ -75,21 +75,8 @@ fn unread(rt: &HostRuntime, name: &str, why: &str) -> Result<Option<Vec<u8>>> {
     Ok(None)
 }
 
-/// Reads one input. Where it can't be read, or is compressed, a sentence on standard error says why,
-/// and there is none.
-pub fn read(rt: &HostRuntime, name: &str) -> Result<Option<Vec<u8>>> {
-    let alloc = rt.alloc();
-    let read = if name == "-" {
-        read_whole(alloc, &mut rt.stdin())
-    } else {
-        match File::open(rt, name) {
-            Ok(mut file) => read_whole(alloc, &mut file),
-            Err(error) => {
-                eprintln!(rt; "van: {name}: it can't be opened: {error}")?;
-                return Ok(None);
-            }
-        }
-    };
+/// An input that was read under this name, unless it couldn't be, or is compressed.
+fn taken(rt: &HostRuntime, name: &str, read: Result<Vec<u8>, RunFault>) -> Result<Option<Vec<u8>>> {
     match read {
         Ok(input) if input.starts_with(&GZIP) => unread(
             rt,
@@ -99,6 +86,21 @@ pub fn read(rt: &HostRuntime, name: &str) -> Result<Option<Vec<u8>>> {
         Ok(input) => Ok(Some(input)),
         Err(fault) => {
             eprintln!(rt; "van: {name}: {fault}")?;
+            Ok(None)
+        }
+    }
+}
+
+/// Reads one input. Where it can't be read, or is compressed, a sentence on standard error says why,
+/// and there is none.
+pub fn read(rt: &HostRuntime, name: &str) -> Result<Option<Vec<u8>>> {
+    if name == "-" {
+        return taken(rt, name, read_whole(rt.alloc(), &mut rt.stdin()));
+    }
+    match File::open(rt, name) {
+        Ok(mut file) => taken(rt, name, read_whole(rt.alloc(), &mut file)),
+        Err(error) => {
+            eprintln!(rt; "van: {name}: it can't be opened: {error}")?;
             Ok(None)
         }
     }

@@ -1,13 +1,14 @@
 //! What an interchange answers, as JSON: one object on a line; and which sets are pending.
 
-use crate::answered::{Answered, Keyed, Line, first_named, ta1_code};
+use crate::answered::{Answered, Line, Pointed, Spoken, first_named, ta1_code};
 use crate::coded::{code_of, numbered};
+use crate::pending::Keyed;
 use crate::piece::{Filled, NULL, icn, members};
 use crate::slice::Interchange;
 use crate::text::Text;
-use x12_acks::{Answer, SetKey};
-use x12_envelopes::{Delims, Segment, SetView};
-use x12_sent::SentSet;
+use x12_acks::Answer;
+use x12_envelopes::{AcknowledgmentCode, Delims, Segment, SetView};
+use x12_outbound::Fate;
 use x12_words::fate_word;
 
 /// Adds the codes of a segment from this element on, five at most.
@@ -22,36 +23,39 @@ fn put_codes(out: &mut Text, read: &Segment<'_>, family: &'static str, first: us
     out.say("]");
 }
 
+/// Adds a listed set, up to its notes.
+fn put_set(out: &mut Text, read: &Segment<'_>, last: &Segment<'_>, is_sent: Option<bool>) {
+    members!(out; "type": read.element(1), "number": read.element(2));
+    out.member("fares", code_of("AK501", last.element(1)));
+    put_codes(out, last, "AK502", 2);
+    out.member_if("sent", is_sent);
+    out.begin_list("notes");
+}
+
+/// Adds a note of a segment.
+fn put_segment(out: &mut Text, read: &Segment<'_>, at: Pointed<'_>) {
+    members!(out; "identifier": read.element(1), "segment": read.element(2));
+    put_codes(out, read, "AK304", 4);
+    out.member_if("sent", at);
+    out.put(b"}");
+}
+
+/// Adds a note of an element.
+fn put_element(out: &mut Text, read: &Segment<'_>, at: Pointed<'_>) {
+    members!(out; "element": read.element(1), "reference": read.element(2));
+    members!(out; "code": code_of("AK403", read.element(3)), "value": read.element(4));
+    out.member_if("sent", at);
+    out.put(b"}");
+}
+
 /// Adds a line of a 997. The list of a set's notes stays open.
 fn put_line(out: &mut Text, line: &Line<'_, '_>) {
     out.begin_item();
     match line {
-        Line::Set(read, last, is_sent) => {
-            let fares = code_of("AK501", last.element(1));
-            members!(out; "type": read.element(1), "number": read.element(2), "fares": fares);
-            put_codes(out, last, "AK502", 2);
-            if let Some(is_sent) = is_sent {
-                out.member("sent", *is_sent);
-            }
-            return out.begin_list("notes");
-        }
-        Line::Segment(read, at) => {
-            members!(out; "identifier": read.element(1), "segment": read.element(2));
-            put_codes(out, read, "AK304", 4);
-            if let Some(sent) = at {
-                out.member("sent", *sent);
-            }
-        }
-        Line::Element(read, at) => {
-            let code = code_of("AK403", read.element(3));
-            members!(out; "element": read.element(1), "reference": read.element(2), "code": code);
-            out.member("value", read.element(4));
-            if let Some(sent) = at {
-                out.member("sent", *sent);
-            }
-        }
+        Line::Set(read, last, is_sent) => put_set(out, read, last, *is_sent),
+        Line::Segment(read, at) => put_segment(out, read, *at),
+        Line::Element(read, at) => put_element(out, read, *at),
     }
-    out.say("}");
 }
 
 /// Adds the sets that a 997 lists.
@@ -69,66 +73,79 @@ fn put_lines(out: &mut Text, lines: &[Line<'_, '_>]) {
     out.say("]");
 }
 
-/// Adds how the group of a 997 fares.
-fn put_group(out: &mut Text, delims: &Delims, set: &SetView<'_>) {
-    let about = first_named(delims, set.segments(delims), b"AK1");
-    let last = first_named(delims, set.segments(delims), b"AK9");
-    let fares = code_of("AK901", last.element(1));
+/// Adds which group a 997 answers (AK1).
+fn put_answered(out: &mut Text, about: &Segment<'_>) {
     members!(out; "answers": "group", "functional": about.element(1), "number": about.element(2));
-    members!(out; "fares": fares, "included": last.element(2), "received": last.element(3));
-    out.member("accepted", last.element(4));
-    put_codes(out, &last, "AK905", 5);
+}
+
+/// Adds how the group of a 997 fares (AK9).
+fn put_fares(out: &mut Text, last: &Segment<'_>) {
+    members!(out; "fares": code_of("AK901", last.element(1)), "included": last.element(2));
+    members!(out; "received": last.element(3), "accepted": last.element(4));
+    put_codes(out, last, "AK905", 5);
+}
+
+/// Adds what a 997 says: of its group, and of the sets that it lists.
+fn put_group(out: &mut Text, delims: &Delims, set: &SetView<'_>, lines: &[Line<'_, '_>]) {
+    put_answered(out, &first_named(delims, set.segments(delims), b"AK1"));
+    put_fares(out, &first_named(delims, set.segments(delims), b"AK9"));
+    put_lines(out, lines);
+}
+
+/// Adds that the set of an answer is no 997 that can be read.
+fn put_unclear(out: &mut Text, set: &SetView<'_>) {
+    members!(out; "answers": NULL, "type": &set.set, "number": set.number.as_bytes());
 }
 
 /// Adds a set of a file by its numbers.
-fn put_numbers(out: &mut Text, key: &SetKey, found: &SentSet<'_, '_>) {
+fn put_numbers(out: &mut Text, keyed: &Keyed<'_, '_>) {
+    let found = &keyed.set;
     out.begin_item();
-    members!(out; "interchange": icn(key.icn), "functional": &found.group.functional);
+    members!(out; "interchange": icn(keyed.key.icn), "functional": &found.group.functional);
     members!(out; "group": found.group.number_text, "type": &found.set.set);
     out.member("number", found.set.number.as_bytes());
 }
 
-/// Adds an answer, and the sets of a file that it speaks of: of each the fate that it closes with, or
-/// null.
+/// Adds a TA1.
+fn put_ta1(out: &mut Text, to: u32, code: AcknowledgmentCode, note: u16) {
+    members!(out; "answers": "interchange", "number": icn(to), "fares": ta1_code(code));
+    out.begin_object("note");
+    members!(out; "code": Filled(b"000", u64::from(note)), "words": numbered("TA1", u32::from(note)).words);
+    out.put(b"}");
+}
+
+/// The word of the fate that a set closes with, if it does.
+fn closing(closes: Option<Fate>) -> Option<&'static str> {
+    match closes {
+        Some(fate) => Some(fate_word(fate)),
+        None => None,
+    }
+}
+
+/// Adds the sets of a file that an answer speaks of: of each the fate that it closes with, or null.
+fn put_spoken(out: &mut Text, spoken: &[Spoken<'_, '_>]) {
+    out.begin_list("speaks_of");
+    for one in spoken {
+        put_numbers(out, &one.keyed);
+        out.member("closes", closing(one.closes));
+        out.put(b"}");
+    }
+    out.put(b"]");
+}
+
+/// Adds an answer, and the sets of a file that it speaks of.
 fn put_answer(out: &mut Text, delims: &Delims, one: &Answered<'_, '_, '_>) {
     out.begin_item();
     match (&one.told.answer, one.told.set) {
-        (
-            Answer::Interchange {
-                icn: to,
-                code,
-                note,
-            },
-            _,
-        ) => {
-            let words = numbered("TA1", u32::from(*note)).words;
-            members!(out; "answers": "interchange", "number": icn(*to), "fares": ta1_code(*code));
-            out.begin_object("note");
-            members!(out; "code": Filled(b"000", u64::from(*note)), "words": words);
-            out.say("}");
-        }
-        (Answer::Group { .. }, Some(set)) => {
-            put_group(out, delims, set);
-            put_lines(out, &one.lines);
-        }
-        (_, Some(set)) => {
-            members!(out; "answers": NULL, "type": &set.set, "number": set.number.as_bytes());
-        }
+        (Answer::Interchange { icn, code, note }, _) => put_ta1(out, *icn, *code, *note),
+        (Answer::Group { .. }, Some(set)) => put_group(out, delims, set, &one.lines),
+        (_, Some(set)) => put_unclear(out, set),
         (_, None) => {}
     }
     if let Some(spoken) = &one.spoken {
-        out.begin_list("speaks_of");
-        for one in spoken {
-            put_numbers(out, &one.key, &one.set);
-            match one.closes {
-                Some(fate) => out.member("closes", fate_word(fate)),
-                None => out.member("closes", NULL),
-            }
-            out.say("}");
-        }
-        out.say("]");
+        put_spoken(out, spoken);
     }
-    out.say("}");
+    out.put(b"}");
 }
 
 /// Adds what an interchange answers.
@@ -152,8 +169,8 @@ pub(crate) fn put_pending(out: &mut Text, name: &str, sets: &[Keyed<'_, '_>]) {
     out.begin_item();
     out.member("file", name);
     out.begin_list("pending");
-    for (key, found) in sets {
-        put_numbers(out, key, found);
+    for keyed in sets {
+        put_numbers(out, keyed);
         out.say("}");
     }
     out.say("]}\n");

@@ -1,6 +1,7 @@
 //! Codes of the standard and of this system, each with what it says.
 
 use crate::piece::{Ink, Piece, members, say};
+use crate::style::Form;
 use crate::text::Text;
 use std::str;
 use x12_envelopes::number_of;
@@ -36,7 +37,7 @@ pub(crate) fn numbered(family: &str, number: u32) -> Coded<'static> {
     let last = b'0' + (number % 10) as u8;
     for wording in wordings(family) {
         let code = wording.code().as_bytes();
-        if code.last() == Some(&last) && number_of(code) == Some(number) {
+        if code.ends_with(&[last]) && number_of(code) == Some(number) {
             let words = wording.words();
             return Coded { code, words };
         }
@@ -55,11 +56,10 @@ impl Text {
 }
 
 impl Piece for Coded<'_> {
-    fn said(self, out: &mut Text) {
-        say!(out; Ink::Wrong, self.code, " ", self.words, Ink::Plain);
-    }
-
-    fn value(self, out: &mut Text) {
+    fn add(self, form: Form, out: &mut Text) {
+        if form != Form::Json {
+            return say!(out; Ink::Wrong, self.code, " ", self.words, Ink::Plain);
+        }
         out.put(b"{");
         out.coded_members(self);
         out.put(b"}");
@@ -67,9 +67,9 @@ impl Piece for Coded<'_> {
 }
 
 impl Piece for Fares<'_> {
-    fn said(self, out: &mut Text) {
+    fn add(self, _form: Form, out: &mut Text) {
         let is_right = self.0.code == b"A".as_slice();
-        say!(out; if is_right { Ink::Right } else { Ink::Wrong });
-        say!(out; self.0.code, " ", self.0.words, Ink::Plain);
+        let ink = if is_right { Ink::Right } else { Ink::Wrong };
+        say!(out; ink, self.0.code, " ", self.0.words, Ink::Plain);
     }
 }

@@ -4,11 +4,12 @@
 ghost use Rattle.std.specs.Prelude.{IfOk};
 ghost use Rattle.x12_inspect.specs.Explaining.{EndsAsExplained, LeavesSent};
 
-use crate::answered::{answer_beside, pending};
+use crate::answered::answer_beside;
 use crate::answered_json::{put_answers, put_pending};
 use crate::answered_words::{say_answers, say_pending};
 use crate::fault::outline_fault;
 use crate::inspecting::{Inspector, Outcome, inspect_all};
+use crate::pending::{Keyed, pending_sets};
 use crate::report::{Found, Report, tell, unreadable};
 use crate::slice::{Interchange, Slice};
 use crate::style::{Form, Style};
@@ -136,6 +137,23 @@ pub fn run_explain<'f, W: Write>(
     Ok(Explained { outcome, sent })
 }
 
+/// Writes that these sets of a file of this name stay pending.
+fn write_pending<W: Write>(
+    alloc: Global,
+    style: &Style<'_>,
+    name: &str,
+    sets: &[Keyed<'_, '_>],
+    out: &mut W,
+) -> Result<(), RunFault> {
+    let mut text = Text::new(alloc, style.look);
+    match style.form {
+        Form::Text => say_pending(&mut text, name, sets),
+        Form::Json => put_pending(&mut text, name, sets),
+        Form::Csv => {}
+    }
+    write_last(text.whole()?, out)
+}
+
 /// Writes which sets of a file that was sent stay pending, once its acknowledgments were explained.
 ///
 /// An error is `RunFault::Write` or `RunFault::Memory`.
@@ -145,12 +163,6 @@ pub fn run_pending<W: Write>(
     sent: &SentFile<'_>,
     out: &mut W,
 ) -> Result<(), RunFault> {
-    let mut text = Text::new(alloc, style.look);
-    let sets = pending(alloc, sent)?;
-    match style.form {
-        Form::Text => say_pending(&mut text, sent.name(), &sets),
-        Form::Json => put_pending(&mut text, sent.name(), &sets),
-        Form::Csv => {}
-    }
-    write_last(text.whole()?, out)
+    let sets = pending_sets(alloc, sent)?;
+    write_pending(alloc, style, sent.name(), &sets, out)
 }

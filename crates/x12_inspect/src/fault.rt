@@ -39,17 +39,25 @@ pub(crate) fn header_fault(bytes: &[u8], fault: HeaderFault) -> Fault<'_> {
     }
 }
 
+/// The number of the segment that begins or goes on behind these bytes: ISA is 1.
+fn segment_behind(terminator: u8, bytes: &[u8]) -> usize {
+    let mut segment = 1usize;
+    for b in bytes {
+        if *b == terminator {
+            segment = segment.saturating_add(1);
+        }
+    }
+    segment
+}
+
 /// The fault of an outline, where it stands.
 pub(crate) fn outline_fault<'a>(at: &Interchange<'_, 'a>, fault: OutlineFault) -> Fault<'a> {
     let place = fault.place().unwrap_or(0);
-    let terminator = at.header.delims.terminator;
-    let ended = part(at.bytes, 0, place)
-        .iter()
-        .filter(|b| **b == terminator);
+    let before = part(at.bytes, 0, place);
     Fault {
         coded: code_of("O", fault.number().as_bytes()),
         at: place,
-        segment: ended.count().saturating_add(1),
+        segment: segment_behind(at.header.delims.terminator, before),
         round: part(at.bytes, place.saturating_sub(ROUND), 2 * ROUND),
         before: place.min(ROUND),
     }
@@ -78,8 +86,8 @@ pub(crate) fn say_address(words: &mut Text, names: &str, found: &Party, me: &Par
 fn say_number(words: &mut Text, name: &str, number: Option<u32>, beside: &str, wanted: u64) {
     say!(words; name, " is ");
     match number {
-        Some(number) => words.say(number),
-        None => words.say("no number"),
+        Some(number) => say!(words; number),
+        None => say!(words; "no number"),
     }
     say!(words; beside, wanted);
 }

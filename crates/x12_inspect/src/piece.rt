@@ -1,14 +1,14 @@
 //! Pieces of what is printed: each as a person reads it, as a value of JSON, and as a cell of CSV
 //! (RFC 4180).
 
-use crate::style::Look;
+use crate::style::{Form, Look};
 use crate::text::Text;
 use itoa::Buffer;
 use x12_envelopes::Party;
 
 /// Adds pieces one behind another, as a person reads them.
 macro_rules! say {
-    ($out:expr; $($piece:expr),*) => {{ $($out.say($piece);)* }};
+    ($out:expr; $($piece:expr),*) => {{ $out$(.say($piece))*; }};
 }
 
 pub(crate) use say;
@@ -22,119 +22,91 @@ pub(crate) use members;
 
 /// Adds cells of CSV, each behind another one.
 macro_rules! cells {
-    ($out:expr; $($piece:expr),*) => {{ $($out.cell($piece);)* }};
+    ($out:expr; $($piece:expr),*) => {{ $out$(.cell($piece))*; }};
 }
 
 pub(crate) use cells;
 
 /// A piece of what is printed.
 pub(crate) trait Piece: Sized {
-    /// Adds it as a person reads it.
-    fn said(self, out: &mut Text);
-
-    /// Adds it as a value of JSON.
-    fn value(self, out: &mut Text) {
-        self.said(out);
-    }
-
-    /// Adds it as a cell of CSV.
-    fn cell(self, out: &mut Text) {
-        self.said(out);
-    }
+    /// Adds it as a person reads it, as a value of JSON, or as a cell of CSV.
+    fn add(self, form: Form, out: &mut Text);
 }
 
 impl Piece for &[u8] {
-    fn said(self, out: &mut Text) {
-        out.shown(self);
-    }
-
-    fn value(self, out: &mut Text) {
-        out.put(b"\"");
-        out.quotable(self);
-        out.put(b"\"");
-    }
-
-    fn cell(self, out: &mut Text) {
-        out.cell_text(self);
+    fn add(self, form: Form, out: &mut Text) {
+        match form {
+            Form::Text => out.within(form, self),
+            Form::Json => out.quoted(form, self),
+            Form::Csv => out.cell_text(self),
+        }
     }
 }
 
 impl<const N: usize> Piece for &[u8; N] {
-    fn said(self, out: &mut Text) {
-        out.shown(self.as_slice());
-    }
-
-    fn value(self, out: &mut Text) {
-        self.as_slice().value(out);
-    }
-
-    fn cell(self, out: &mut Text) {
-        out.cell_text(self.as_slice());
+    fn add(self, form: Form, out: &mut Text) {
+        self.as_slice().add(form, out);
     }
 }
 
 impl Piece for &str {
-    fn said(self, out: &mut Text) {
-        out.put(self.as_bytes());
-    }
-
-    fn value(self, out: &mut Text) {
-        self.as_bytes().value(out);
-    }
-
-    fn cell(self, out: &mut Text) {
-        out.cell_text(self.as_bytes());
+    fn add(self, form: Form, out: &mut Text) {
+        match form {
+            Form::Text => out.put(self.as_bytes()),
+            Form::Json | Form::Csv => self.as_bytes().add(form, out),
+        }
     }
 }
 
 impl Piece for u64 {
-    fn said(self, out: &mut Text) {
+    fn add(self, _form: Form, out: &mut Text) {
         let mut buffer = Buffer::new();
         out.put(buffer.format(self).as_bytes());
     }
 }
 
 impl Piece for u32 {
-    fn said(self, out: &mut Text) {
-        u64::from(self).said(out);
+    fn add(self, form: Form, out: &mut Text) {
+        u64::from(self).add(form, out);
     }
 }
 
 impl Piece for u16 {
-    fn said(self, out: &mut Text) {
-        u64::from(self).said(out);
+    fn add(self, form: Form, out: &mut Text) {
+        u64::from(self).add(form, out);
     }
 }
 
 impl Piece for u8 {
-    fn said(self, out: &mut Text) {
-        u64::from(self).said(out);
+    fn add(self, form: Form, out: &mut Text) {
+        u64::from(self).add(form, out);
     }
 }
 
 impl Piece for usize {
-    fn said(self, out: &mut Text) {
-        (self as u64).said(out);
+    fn add(self, form: Form, out: &mut Text) {
+        (self as u64).add(form, out);
     }
 }
 
 impl Piece for bool {
-    fn said(self, out: &mut Text) {
-        out.say(if self { "true" } else { "false" });
+    fn add(self, _form: Form, out: &mut Text) {
+        out.put(if self { b"true" } else { b"false" });
     }
 }
 
+/// A value of JSON, or `null`.
 impl<P: Piece> Piece for Option<P> {
-    fn said(self, out: &mut Text) {
+    fn add(self, _form: Form, out: &mut Text) {
         match self {
-            Some(piece) => piece.value(out),
-            None => out.say("null"),
+            Some(piece) => piece.add(Form::Json, out),
+            None => out.put(b"null"),
         }
     }
 }
 
 impl Piece for &Text {
-    fn said(self, out: &mut Text) {
+    fn add(self, _form: Form, out: &mut Text) {
         out.put_text(self);
     }
 }
@@ -147,18 +119,15 @@ pub(crate) const NULL: Option<bool> = None;
 pub(crate) struct Filled(pub &'static [u8], pub u64);
 
 impl Piece for Filled {
-    fn said(self, out: &mut Text) {
+    fn add(self, form: Form, out: &mut Text) {
         let mut buffer = Buffer::new();
         let digits = buffer.format(self.1).as_bytes();
         let (front, _) = self.0.split_at(self.0.len().saturating_sub(digits.len()));
+        let quote: &[u8] = if form == Form::Json { b"\"" } else { b"" };
+        out.put(quote);
         out.put(front);
         out.put(digits);
-    }
-
-    fn value(self, out: &mut Text) {
-        out.put(b"\"");
-        self.said(out);
-        out.put(b"\"");
+        out.put(quote);
     }
 }
 
@@ -169,24 +138,13 @@ pub(crate) fn icn(number: u32) -> Filled {
 
 /// An address as qualifier and identifier, as `ZZ/ALPHA`.
 impl Piece for &Party {
-    fn said(self, out: &mut Text) {
-        say!(out; &self.qualifier, "/", self.identifier());
-    }
-
-    fn value(self, out: &mut Text) {
-        out.put(b"\"");
-        out.quotable(&self.qualifier);
+    fn add(self, form: Form, out: &mut Text) {
+        let quote: &[u8] = if form == Form::Text { b"" } else { b"\"" };
+        out.put(quote);
+        out.within(form, &self.qualifier);
         out.put(b"/");
-        out.quotable(self.identifier());
-        out.put(b"\"");
-    }
-
-    fn cell(self, out: &mut Text) {
-        out.put(b"\"");
-        out.cell_part(&self.qualifier);
-        out.put(b"/");
-        out.cell_part(self.identifier());
-        out.put(b"\"");
+        out.within(form, self.identifier());
+        out.put(quote);
     }
 }
 
@@ -204,28 +162,37 @@ pub(crate) enum Ink {
 }
 
 impl Piece for Ink {
-    fn said(self, out: &mut Text) {
+    fn add(self, _form: Form, out: &mut Text) {
         if out.look() == Look::Colors {
-            out.say(match self {
-                Ink::Plain => "\x1b[0m",
-                Ink::Name => "\x1b[1m",
-                Ink::Right => "\x1b[32m",
-                Ink::Wrong => "\x1b[1;31m",
+            out.put(match self {
+                Ink::Plain => b"\x1b[0m",
+                Ink::Name => b"\x1b[1m",
+                Ink::Right => b"\x1b[32m",
+                Ink::Wrong => b"\x1b[1;31m",
             });
         }
     }
 }
 
 impl Text {
-    /// Adds a piece as a person reads it.
-    pub(crate) fn say<P: Piece>(&mut self, piece: P) {
-        piece.said(self);
+    /// Adds a piece as a person reads it; another may follow.
+    pub(crate) fn say<P: Piece>(&mut self, piece: P) -> &mut Text {
+        piece.add(Form::Text, self);
+        self
     }
 
-    /// Adds a cell behind another one.
-    pub(crate) fn cell<P: Piece>(&mut self, piece: P) {
+    /// Adds a copy of an element behind a space, if it isn't empty.
+    pub(crate) fn say_copy(&mut self, copy: &[u8]) {
+        if !copy.is_empty() {
+            say!(self; " \"", copy, "\"");
+        }
+    }
+
+    /// Adds a cell behind another one; another may follow.
+    pub(crate) fn cell<P: Piece>(&mut self, piece: P) -> &mut Text {
         self.put(b",");
-        piece.cell(self);
+        piece.add(Form::Csv, self);
+        self
     }
 
     /// Adds the comma that parts a value of JSON from the one before it, if one stands there.
@@ -245,7 +212,14 @@ impl Text {
     /// Adds a member.
     pub(crate) fn member<P: Piece>(&mut self, name: &str, piece: P) {
         self.name(name);
-        piece.value(self);
+        piece.add(Form::Json, self);
+    }
+
+    /// Adds a member, where there is one.
+    pub(crate) fn member_if<P: Piece>(&mut self, name: &str, piece: Option<P>) {
+        if let Some(piece) = piece {
+            self.member(name, piece);
+        }
     }
 
     /// Begins a member that is an object.
@@ -263,7 +237,7 @@ impl Text {
     /// Adds an item of a list.
     pub(crate) fn item<P: Piece>(&mut self, piece: P) {
         self.part();
-        piece.value(self);
+        piece.add(Form::Json, self);
     }
 
     /// Begins an object in a list, or on a line.

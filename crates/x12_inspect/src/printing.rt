@@ -52,8 +52,20 @@ impl Noted<'_, '_> {
 
     /// The rule of the element at a place of its segment.
     pub(crate) fn rule(&self, place: u8) -> Option<&'static ElementRule> {
-        element_rules().iter().find(|rule| rule.segment.as_slice() == self.identifier
-            && rule.place == place)
+        for rule in element_rules() {
+            if rule.place == place && rule.segment.as_slice() == self.identifier {
+                return Some(rule);
+            }
+        }
+        None
+    }
+}
+
+/// Why a group is refused as a whole, if it is.
+pub(crate) fn refusal(group: &GroupVerdict<'_>) -> Option<Coded<'static>> {
+    match group.refused {
+        Some(why) => Some(numbered("AK905", u32::from(why.number()))),
+        None => None,
     }
 }
 

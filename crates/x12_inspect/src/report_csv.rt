@@ -3,10 +3,11 @@
 use crate::coded::{Coded, numbered};
 use crate::fault::{Cause, Fault};
 use crate::piece::{cells, icn, say};
-use crate::printing::{JudgedSet, Noted, Printer, print_groups};
+use crate::printing::{JudgedSet, Noted, Printer, print_groups, refusal};
 use crate::report::{Found, Report};
+use crate::style::Form;
 use crate::text::Text;
-use x12_judge::{GroupVerdict, SetNote};
+use x12_judge::{GroupVerdict, SetNote, SetVerdict};
 
 /// The names of the columns, which stand on the first line.
 pub const CSV_HEAD: &str =
@@ -18,7 +19,7 @@ fn put_front(out: &mut Text, file: &str, report: &Report<'_, '_>) {
     out.cell(report.place);
     match report.header {
         Some(header) => cells!(out; icn(header.icn), &header.sender, &header.receiver),
-        None => out.say(",,,"),
+        None => say!(out; ",,,"),
     }
 }
 
@@ -39,10 +40,28 @@ fn put_code(out: &mut Text, family: &str, coded: Coded<'_>) {
     out.say(",\n");
 }
 
+/// Adds the codes of a set that is rejected, as a cell.
+fn put_codes(out: &mut Text, set: &SetVerdict<'_>) {
+    let mut between = "";
+    for code in set.codes.as_slice() {
+        say!(out; between, code.number());
+        between = " ";
+    }
+}
+
+/// Adds what the codes of a set say, as a cell that isn't ended yet.
+fn put_words(out: &mut Text, set: &SetVerdict<'_>) {
+    let mut between = ",\"";
+    for code in set.codes.as_slice() {
+        say!(out; between, numbered("AK502", u32::from(code.number())).words);
+        between = "; ";
+    }
+}
+
 /// Adds where a fault is, as what stands between quotes.
 fn put_place(out: &mut Text, fault: &Fault<'_>) {
     say!(out; "at byte ", fault.at, ", in segment ", fault.segment, ": ");
-    out.cell_part(fault.round);
+    out.within(Form::Csv, fault.round);
 }
 
 /// Adds why an interchange is refused as a whole, or can't be read, behind its first cells, up to the
@@ -58,13 +77,13 @@ fn put_refused(out: &mut Text, family: &[u8], coded: Coded<'_>, cause: &Cause<'_
     put_whole(out, family, coded);
     match cause {
         Cause::Fault(fault) => {
-            out.cell_part(fault.coded.code);
+            out.within(Form::Csv, fault.coded.code);
             out.say(" ");
-            out.cell_part(fault.coded.words.as_bytes());
+            out.within(Form::Csv, fault.coded.words.as_bytes());
             out.say(", ");
             put_place(out, fault);
         }
-        Cause::Words(words) => out.cell_part(words.bytes()),
+        Cause::Words(words) => out.within(Form::Csv, words.bytes()),
     }
     out.say("\"\n");
 }
@@ -80,11 +99,11 @@ impl Printer for Rows<'_, '_, '_> {
     ghost prints = { λ printer t found u. Unit {0} };
 
     fn group(&self, out: &mut Text, group: &GroupVerdict<'_>) {
-        if let Some(why) = group.refused {
+        if let Some(coded) = refusal(group) {
             put_front(out, self.file, self.report);
             put_group(out, group);
             out.say(",,,,,,,,");
-            put_code(out, "AK905", numbered("AK905", u32::from(why.number())));
+            put_code(out, "AK905", coded);
         }
     }
 
@@ -95,16 +114,8 @@ impl Printer for Rows<'_, '_, '_> {
         put_front(out, self.file, self.report);
         put_set(out, at);
         out.say(",,,,,,AK502,");
-        let mut between = "";
-        for code in at.set.codes.as_slice() {
-            say!(out; between, code.number());
-            between = " ";
-        }
-        let mut between = ",\"";
-        for code in at.set.codes.as_slice() {
-            say!(out; between, numbered("AK502", u32::from(code.number())).words);
-            between = "; ";
-        }
+        put_codes(out, at.set);
+        put_words(out, at.set);
         out.say("\",\n");
     }
 
@@ -113,7 +124,7 @@ impl Printer for Rows<'_, '_, '_> {
         put_set(out, at);
         cells!(out; note.position, note.identifier);
         match note.note {
-            SetNote::Segment { .. } => out.say(",,,"),
+            SetNote::Segment { .. } => say!(out; ",,,"),
             SetNote::Element {
                 place,
                 reference,

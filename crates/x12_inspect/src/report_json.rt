@@ -3,11 +3,11 @@
 use crate::coded::{Coded, numbered};
 use crate::fault::{Cause, Fault};
 use crate::piece::{icn, members};
-use crate::printing::{JudgedSet, Noted, Printer, print_groups};
+use crate::printing::{JudgedSet, Noted, Printer, print_groups, refusal};
 use crate::report::{Found, Report, counts_of};
 use crate::text::Text;
 use x12_envelopes::Header;
-use x12_judge::{GroupVerdict, SetNote};
+use x12_judge::{GroupVerdict, SetNote, SetVerdict};
 
 impl Text {
     /// Begins the object of an interchange: its file, and its place in it.
@@ -30,6 +30,22 @@ impl Text {
     }
 }
 
+/// Adds the codes of a set.
+fn put_codes(out: &mut Text, set: &SetVerdict<'_>) {
+    out.begin_list("codes");
+    for code in set.codes.as_slice() {
+        out.item(numbered("AK502", u32::from(code.number())));
+    }
+    out.say("]");
+}
+
+/// Adds which lengths the element at a place of a note may have, where it has a rule.
+fn put_lengths(out: &mut Text, note: &Noted<'_, '_>, place: u8) {
+    if let Some(rule) = note.rule(place) {
+        members!(out; "least": rule.least, "most": rule.most);
+    }
+}
+
 /// Adds the parts that were judged.
 #[derive(Clone, Copy)]
 struct Tree;
@@ -38,13 +54,9 @@ impl Printer for Tree {
     ghost prints = { λ printer t found u. Unit {0} };
 
     fn group(&self, out: &mut Text, group: &GroupVerdict<'_>) {
-        let refused = match group.refused {
-            Some(why) => Some(numbered("AK905", u32::from(why.number()))),
-            None => None,
-        };
         out.begin_item();
         members!(out; "group": group.place, "functional": &group.functional);
-        members!(out; "number": group.number_text, "received": group.received, "refused": refused);
+        members!(out; "number": group.number_text, "received": group.received, "refused": refusal(group));
         out.begin_list("sets");
     }
 
@@ -53,11 +65,7 @@ impl Printer for Tree {
         out.begin_item();
         members!(out; "set": at.place, "type": &set.set, "number": set.number.as_bytes());
         out.member("accepted", set.is_accepted());
-        out.begin_list("codes");
-        for code in set.codes.as_slice() {
-            out.item(numbered("AK502", u32::from(code.number())));
-        }
-        out.say("]");
+        put_codes(out, set);
         out.begin_list("notes");
     }
 
@@ -72,9 +80,7 @@ impl Printer for Tree {
         } = note.note
         {
             members!(out; "element": *place, "reference": *reference, "value": *copy);
-            if let Some(rule) = note.rule(*place) {
-                members!(out; "least": rule.least, "most": rule.most);
-            }
+            put_lengths(out, note, *place);
         }
         out.coded_members(note.coded());
         out.say("}");
@@ -119,16 +125,9 @@ fn put_whole(out: &mut Text, coded: Coded<'_>, cause: &Cause<'_>) {
     out.say("}");
 }
 
-/// Adds what is found of an interchange of a file.
-pub(crate) fn put_report(out: &mut Text, file: &str, report: &Report<'_, '_>) {
-    out.begin_interchange(file, report.place);
-    if let Some(accepted) = report.accepted {
-        out.member("accepted", accepted);
-    }
-    if let Some(header) = report.header {
-        out.header_members(header);
-    }
-    match &report.found {
+/// Adds what is found of an interchange.
+fn put_found(out: &mut Text, found: &Found<'_, '_>) {
+    match found {
         Found::Unreadable(fault) => out.fault_member(fault),
         Found::Refused(coded, cause) => {
             put_counts(out, &[]);
@@ -138,5 +137,15 @@ pub(crate) fn put_report(out: &mut Text, file: &str, report: &Report<'_, '_>) {
         Found::Unsendable(coded, cause) => put_whole(out, *coded, cause),
         Found::Sendable(sets) => out.member("sets", *sets),
     }
+}
+
+/// Adds what is found of an interchange of a file.
+pub(crate) fn put_report(out: &mut Text, file: &str, report: &Report<'_, '_>) {
+    out.begin_interchange(file, report.place);
+    out.member_if("accepted", report.accepted);
+    if let Some(header) = report.header {
+        out.header_members(header);
+    }
+    put_found(out, &report.found);
     out.say("}\n");
 }

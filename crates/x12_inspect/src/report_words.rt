@@ -3,11 +3,11 @@
 use crate::coded::{Coded, numbered};
 use crate::fault::{Cause, Fault};
 use crate::piece::{Ink, icn, say};
-use crate::printing::{JudgedSet, Noted, Printer, print_groups};
+use crate::printing::{JudgedSet, Noted, Printer, print_groups, refusal};
 use crate::report::{Found, Report, counts_of};
 use crate::text::Text;
 use x12_envelopes::{Delims, Header};
-use x12_judge::{ElementCode, ElementRule, GroupVerdict, SetNote};
+use x12_judge::{ElementCode, ElementRule, GroupVerdict, SetNote, SetVerdict};
 
 impl Text {
     /// Adds where an interchange stands, and its number and parties, if they can be read, as
@@ -23,8 +23,10 @@ impl Text {
 
 /// Adds a fault, and on a line below where it is.
 fn say_fault(out: &mut Text, fault: &Fault<'_>) {
-    say!(out; fault.coded, "\n  at byte ", fault.at, ", in segment ", fault.segment, ": \"");
-    let column = out.column();
+    say!(out; fault.coded, "\n");
+    let line = out.len();
+    say!(out; "  at byte ", fault.at, ", in segment ", fault.segment, ": \"");
+    let column = out.len().saturating_sub(line);
     say!(out; fault.round, "\"\n");
     out.carets(column, fault.round, fault.before, 1);
 }
@@ -50,7 +52,7 @@ fn say_whole(out: &mut Text, coded: Coded<'_>, cause: &Cause<'_>) {
 fn say_counts(out: &mut Text, groups: &[GroupVerdict<'_>], is_right: bool) {
     let counts = counts_of(groups);
     if is_right && counts.received == 0 {
-        return out.say(": accepted, with no sets to judge\n");
+        return say!(out; ": accepted, with no sets to judge\n");
     }
     if is_right {
         say!(out; ": ", Ink::Right, counts.received, " of ", counts.received, " sets accepted");
@@ -93,6 +95,12 @@ fn say_wanted(out: &mut Text, note: &Noted<'_, '_>, place: u8, code: ElementCode
     }
 }
 
+/// Adds the element that a note is of, and what stands there.
+fn say_element(out: &mut Text, place: u8, reference: u16, copy: &[u8]) {
+    say!(out; ", element ", place, " (", reference, ")");
+    out.say_copy(copy);
+}
+
 /// Adds a note of the set before, as `    segment 2 BEG: 8 segment has data element errors`.
 fn say_note(out: &mut Text, note: &Noted<'_, '_>) {
     say!(out; "    segment ", note.position, " ", note.identifier);
@@ -104,15 +112,21 @@ fn say_note(out: &mut Text, note: &Noted<'_, '_>) {
             code,
             copy,
         } => {
-            say!(out; ", element ", *place, " (", *reference, ")");
-            if !copy.is_empty() {
-                say!(out; " \"", *copy, "\"");
-            }
+            say_element(out, *place, *reference, *copy);
             say!(out; ": ", note.coded());
             say_wanted(out, note, *place, *code);
         }
     }
     out.say("\n");
+}
+
+/// Adds the codes of a set that is rejected, one behind another.
+fn say_codes(out: &mut Text, set: &SetVerdict<'_>) {
+    let mut between = "";
+    for code in set.codes.as_slice() {
+        say!(out; between, numbered("AK502", u32::from(code.number())));
+        between = ", ";
+    }
 }
 
 /// Says what is wrong, in order. That a segment has elements in error isn't said where they follow.
@@ -125,9 +139,9 @@ impl Printer for Words {
     ghost prints = { λ printer t found u. Unit {0} };
 
     fn group(&self, out: &mut Text, group: &GroupVerdict<'_>) {
-        if let Some(why) = group.refused {
+        if let Some(coded) = refusal(group) {
             say_group(out, group);
-            say!(out; ": refused: ", numbered("AK905", u32::from(why.number())), "\n");
+            say!(out; ": refused: ", coded, "\n");
         }
     }
 
@@ -135,14 +149,9 @@ impl Printer for Words {
         if at.set.is_accepted() {
             return;
         }
-        let number = at.set.number.as_bytes();
         say_group(out, at.group);
-        say!(out; ", set ", at.place, ", ", &at.set.set, " ", number, ": rejected: ");
-        let mut between = "";
-        for code in at.set.codes.as_slice() {
-            say!(out; between, numbered("AK502", u32::from(code.number())));
-            between = ", ";
-        }
+        say!(out; ", set ", at.place, ", ", &at.set.set, " ", at.set.number.as_bytes(), ": rejected: ");
+        say_codes(out, at.set);
         out.say("\n");
     }
 
@@ -171,7 +180,7 @@ pub(crate) fn say_report(out: &mut Text, report: &Report<'_, '_>) {
     out.interchange(report.place, report.header);
     match (&report.found, report.header) {
         (Found::Unreadable(fault), header) => {
-            out.say(if header.is_some() { "\n  " } else { ": " });
+            say!(out; if header.is_some() { "\n  " } else { ": " });
             say_fault(out, fault);
         }
         (Found::Refused(coded, cause) | Found::Unsendable(coded, cause), _) => {

@@ -5,9 +5,10 @@ ghost use Rattle.x12_sent.specs.Sent.{IsSent};
 ghost use Rattle.x12_inspect.specs.Sending.{EndsAsCheckedBySender};
 
 use crate::coded::code_of;
-use crate::fault::{Cause, header_fault, outline_fault, say_address};
+use crate::fault::{Cause, header_fault};
 use crate::inspecting::{Inspector, Outcome, inspect_all};
-use crate::piece::{icn, say};
+use crate::piece::say;
+use crate::refusing::cause_of;
 use crate::report::{Found, checked, headless, tell};
 use crate::slice::{Interchange, Slice};
 use crate::style::{Form, Look, Style};
@@ -15,120 +16,10 @@ use crate::text::Text;
 use std::alloc::{AllocError, Global};
 use std::io::Write;
 use x12_answering::{RunFault, write_last};
-use x12_envelopes::{
-    GroupView, Header, HeaderFault, Outline, OutlineFault, Party, SetView, outline, read_header,
-};
+use x12_envelopes::{HeaderFault, Outline, Party, read_header};
 use x12_numbers::Book;
 use x12_outbound::SubmitFault;
 use x12_sent::{Refusals, Sender, SentFile};
-
-/// Adds the group at an index, by its place and its codes, as `group 1, PO 1`.
-fn say_group(words: &mut Text, index: usize, group: &GroupView<'_>) {
-    let place = index.saturating_add(1);
-    say!(words; "group ", place, ", ", &group.functional, " ", group.number_text);
-}
-
-/// Adds the first TA1 or group of acknowledgments.
-fn say_answer(words: &mut Text, read: &Outline<'_>) {
-    if let Some(ta1) = read.tas.first() {
-        return say!(words; "TA1 of interchange ", icn(ta1.icn));
-    }
-    for (index, group) in read.groups.iter().enumerate() {
-        if group.functional == *b"FA" {
-            return say_group(words, index, group);
-        }
-    }
-}
-
-/// Adds the first group without a set, or that there is no group.
-fn say_empty(words: &mut Text, read: &Outline<'_>) {
-    for (index, group) in read.groups.iter().enumerate() {
-        if group.sets.is_empty() {
-            say_group(words, index, group);
-            return words.say(": no set");
-        }
-    }
-    words.say("no group");
-}
-
-/// The first of these sets whose control number a set behind it has, and its place, from 1.
-fn first_repeated<'r, 'a>(sets: &'r [SetView<'a>]) -> Option<(usize, &'r SetView<'a>)> {
-    for (index, set) in sets.iter().enumerate() {
-        let (_, behind) = sets.split_at(index + 1);
-        if behind.iter().any(|other| other.number == set.number) {
-            return Some((index + 1, set));
-        }
-    }
-    None
-}
-
-/// Adds the first set whose control number a set behind it in its group has.
-fn say_twice(words: &mut Text, read: &Outline<'_>) {
-    for (index, group) in read.groups.iter().enumerate() {
-        if let Some((place, set)) = first_repeated(&group.sets) {
-            say_group(words, index, group);
-            return say!(words; ": ", set.number.as_bytes(), " is set ", place, ", and one behind it");
-        }
-    }
-}
-
-/// Adds the first number that isn't above the one before it.
-fn say_old(words: &mut Text, last: &Book, header: &Header, read: &Outline<'_>) {
-    if header.icn <= last.interchange() {
-        return say!(words; "ISA13 is ", header.icn, ", the last one used ", last.interchange());
-    }
-    let mut before = last.group();
-    for (index, group) in read.groups.iter().enumerate() {
-        if group.number <= before {
-            say_group(words, index, group);
-            return say!(words; ": the last number used is ", before);
-        }
-        before = group.number;
-    }
-}
-
-/// Adds what a fault of what an interchange holds was found in.
-fn say_held(
-    words: &mut Text,
-    sender: &Sender,
-    fault: SubmitFault,
-    header: &Header,
-    read: &Outline<'_>,
-) {
-    match fault {
-        SubmitFault::Acknowledgments => say_answer(words, read),
-        SubmitFault::Empty => say_empty(words, read),
-        SubmitFault::SetTwice => say_twice(words, read),
-        SubmitFault::NotNew => say_old(words, &sender.book, header, read),
-        _ => {}
-    }
-}
-
-/// Why a sender may not submit an interchange.
-fn cause_of<'a>(
-    alloc: Global,
-    sender: &Sender,
-    at: &Interchange<'_, 'a>,
-    fault: SubmitFault,
-) -> Result<Cause<'a>, AllocError> {
-    let mut words = Text::new(alloc, Look::Plain);
-    let header = at.header;
-    match fault {
-        SubmitFault::NotMine => {
-            say_address(&mut words, "ISA05 and ISA06", &header.sender, &sender.me);
-        }
-        SubmitFault::OwnAddress => {
-            say_address(&mut words, "ISA07 and ISA08", &header.receiver, &sender.me);
-        }
-        SubmitFault::Shape(found) => return Ok(Cause::Fault(outline_fault(at, found))),
-        _ => match outline(alloc, at.bytes, header) {
-            Ok(read) => say_held(&mut words, sender, fault, header, &read),
-            Err(OutlineFault::Memory) => return Err(AllocError),
-            Err(_) => {}
-        },
-    }
-    Ok(Cause::Words(words))
-}
 
 /// Tells why a sender may not submit an interchange with this header.
 fn tell_refused<'r, 'a: 'r>(

@@ -24,20 +24,29 @@ fn say_compared(out: &mut Text, compared: &Compared<'_>) {
     say!(out; "; says ", compared.number, ", ", compared.header, " says ", compared.said, Ink::Plain);
 }
 
-/// Adds a segment on a line: its offset, its position in its set, and its bytes.
-fn say_placed(out: &mut Text, offset: usize, placed: &Placed<'_>) {
-    say!(out; Filled(b"        ", offset.saturating_add(placed.at) as u64), " ");
-    match placed.position {
-        Some(position) => out.say(Filled(b"     ", position as u64)),
-        None => out.say("     "),
+/// Adds the position of a segment in its set, or the room for one.
+fn say_position(out: &mut Text, position: Option<usize>) {
+    match position {
+        Some(position) => say!(out; Filled(b"     ", position as u64)),
+        None => say!(out; "     "),
     }
-    out.say(match placed.depth {
+}
+
+/// What stands in front of the bytes of a segment at a depth.
+fn indent(depth: usize) -> &'static str {
+    match depth {
         0 => "  ",
         1 => "    ",
         2 => "      ",
         _ => "        ",
-    });
-    out.say(placed.bytes);
+    }
+}
+
+/// Adds a segment on a line: its offset, its position in its set, and its bytes.
+fn say_placed(out: &mut Text, offset: usize, placed: &Placed<'_>) {
+    say!(out; Filled(b"        ", offset.saturating_add(placed.at) as u64), " ");
+    say_position(out, placed.position);
+    say!(out; indent(placed.depth), placed.bytes);
     if let Some(compared) = &placed.compared {
         say_compared(out, compared);
     }
@@ -57,9 +66,7 @@ fn put_compared(out: &mut Text, compared: &Compared<'_>) {
 fn put_placed(out: &mut Text, offset: usize, placed: &Placed<'_>) {
     out.begin_item();
     members!(out; "byte": offset.saturating_add(placed.at), "depth": placed.depth);
-    if let Some(position) = placed.position {
-        out.member("position", position);
-    }
+    out.member_if("position", placed.position);
     out.member("segment", placed.bytes);
     if let Some(compared) = &placed.compared {
         put_compared(out, compared);

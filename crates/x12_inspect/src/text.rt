@@ -1,7 +1,7 @@
 //! Text that is gathered, piece by piece, to be written. No piece can fail by itself: that memory ran
 //! out is remembered, and asked for once.
 
-use crate::style::Look;
+use crate::style::{Form, Look};
 use std::alloc::{AllocError, Global};
 use std::str;
 
@@ -29,6 +29,28 @@ fn are_plain(bytes: &[u8], but: &[u8]) -> bool {
         }
     }
     true
+}
+
+/// The printable characters of ASCII that can't stand in this form as they are.
+fn unquotable(form: Form) -> &'static [u8] {
+    match form {
+        Form::Text => b"",
+        Form::Json => b"\"\\",
+        Form::Csv => b"\"",
+    }
+}
+
+/// The letter that stands for a byte behind a backslash in a text of JSON, if one does.
+fn escape_of(b: u8) -> Option<u8> {
+    match b {
+        b'"' | b'\\' => Some(b),
+        0x08 => Some(b'b'),
+        0x0C => Some(b'f'),
+        b'\n' => Some(b'n'),
+        b'\r' => Some(b'r'),
+        b'\t' => Some(b't'),
+        _ => None,
+    }
 }
 
 impl Text {
@@ -71,70 +93,63 @@ impl Text {
         }
     }
 
-    /// Adds bytes as a person reads them: a control byte as its two hexadecimal digits, as `<0D>`.
-    /// Bytes that aren't UTF-8 are told as Latin-1.
-    pub(crate) fn shown(&mut self, bytes: &[u8]) {
-        if are_plain(bytes, b"") {
-            return self.put(bytes);
-        }
-        let are_utf8 = str::from_utf8(bytes).is_ok();
-        for b in bytes {
-            self.shown_letter(are_utf8, *b);
-        }
-    }
-
     /// Adds a byte of a text of JSON, behind a backslash where it has to be.
     fn escaped(&mut self, are_utf8: bool, b: u8) {
-        match b {
-            b'"' => self.put(b"\\\""),
-            b'\\' => self.put(b"\\\\"),
-            0x08 => self.put(b"\\b"),
-            0x0C => self.put(b"\\f"),
-            b'\n' => self.put(b"\\n"),
-            b'\r' => self.put(b"\\r"),
-            b'\t' => self.put(b"\\t"),
-            _ if b < 0x20 => {
-                self.put(b"\\u00");
-                self.put(&[digit(b >> 4, b'W'), digit(b & 15, b'W')]);
-            }
-            _ => self.letter(are_utf8, b),
+        if let Some(letter) = escape_of(b) {
+            self.put(&[b'\\', letter]);
+        } else if b < 0x20 {
+            self.put(&[
+                b'\\',
+                b'u',
+                b'0',
+                b'0',
+                digit(b >> 4, b'W'),
+                digit(b & 15, b'W'),
+            ]);
+        } else {
+            self.letter(are_utf8, b);
         }
     }
 
-    /// Adds bytes as what stands between the quotes of a text of JSON. Bytes that aren't UTF-8 are
-    /// told as Latin-1.
-    pub(crate) fn quotable(&mut self, bytes: &[u8]) {
-        if are_plain(bytes, b"\"\\") {
+    /// Adds one of several bytes as this form has it.
+    fn formed(&mut self, form: Form, are_utf8: bool, b: u8) {
+        if form == Form::Json {
+            self.escaped(are_utf8, b);
+        } else if form == Form::Csv && b == b'"' {
+            self.put(b"\"\"");
+        } else {
+            self.shown_letter(are_utf8, b);
+        }
+    }
+
+    /// Adds bytes as a person reads them: a control byte as its two hexadecimal digits, as `<0D>`. In
+    /// JSON it is what stands between the quotes of a text; in CSV what a person reads, with each quote
+    /// twice. Bytes that aren't UTF-8 are told as Latin-1.
+    pub(crate) fn within(&mut self, form: Form, bytes: &[u8]) {
+        if are_plain(bytes, unquotable(form)) {
             return self.put(bytes);
         }
         let are_utf8 = str::from_utf8(bytes).is_ok();
         for b in bytes {
-            self.escaped(are_utf8, *b);
+            self.formed(form, are_utf8, *b);
         }
     }
 
-    /// Adds bytes as what stands between the quotes of a cell of CSV: as a person reads them, with
-    /// each quote twice.
-    pub(crate) fn cell_part(&mut self, bytes: &[u8]) {
-        let are_utf8 = str::from_utf8(bytes).is_ok();
-        for b in bytes {
-            if *b == b'"' {
-                self.put(b"\"\"");
-            } else {
-                self.shown_letter(are_utf8, *b);
-            }
-        }
+    /// Adds bytes in this form between quotes.
+    pub(crate) fn quoted(&mut self, form: Form, bytes: &[u8]) {
+        self.put(b"\"");
+        self.within(form, bytes);
+        self.put(b"\"");
     }
 
     /// Adds bytes as a cell of CSV, in quotes where a quote, a comma or another byte than a printable
     /// one of ASCII stands in them.
     pub(crate) fn cell_text(&mut self, bytes: &[u8]) {
         if are_plain(bytes, b"\",") {
-            return self.put(bytes);
+            self.put(bytes);
+        } else {
+            self.quoted(Form::Csv, bytes);
         }
-        self.put(b"\"");
-        self.cell_part(bytes);
-        self.put(b"\"");
     }
 
     /// The last byte, if there is one.
@@ -142,9 +157,9 @@ impl Text {
         self.bytes.last().copied()
     }
 
-    /// How many bytes stand on the last line.
-    pub(crate) fn column(&self) -> usize {
-        self.bytes.iter().rev().take_while(|b| **b != b'\n').count()
+    /// How many bytes were gathered.
+    pub(crate) fn len(&self) -> usize {
+        self.bytes.len()
     }
 
     /// Whether nothing was gathered.

@@ -8,7 +8,7 @@ ghost use Rattle.x12_inspect.specs.Explaining.{answers_received, IsLeftBy, MayBe
 
 use std::alloc::{AllocError, Global};
 use x12_acks::{Answer, read_answers};
-use x12_envelopes::{Header, Outline, SetView};
+use x12_envelopes::{GroupView, Header, Outline, SetView};
 use x12_sent::{Meaning, SentFile};
 
 /// An answer, the set that says it, and what it means beside a file that was sent.
@@ -22,6 +22,17 @@ pub(crate) struct Told<'r, 'a> {
     pub meaning: Option<Meaning>,
 }
 
+/// Adds the sets of a group.
+fn push_sets<'r, 'a>(
+    sets: &mut Vec<&'r SetView<'a>>,
+    group: &'r GroupView<'a>,
+) -> Result<(), AllocError> {
+    for set in &group.sets {
+        sets.push(set)?;
+    }
+    Ok(())
+}
+
 /// The sets of the groups of acknowledgments (FA), in order.
 fn acknowledgment_sets<'r, 'a>(
     alloc: Global,
@@ -30,9 +41,7 @@ fn acknowledgment_sets<'r, 'a>(
     let mut sets = Vec::new(alloc);
     for group in &read.groups {
         if group.functional == *b"FA" {
-            for set in &group.sets {
-                sets.push(set)?;
-            }
+            push_sets(&mut sets, group)?;
         }
     }
     Ok(sets)
