@@ -11,7 +11,7 @@ use crate::piece::say;
 use crate::refusing::cause_of;
 use crate::report::{Found, checked, headless, tell};
 use crate::slice::{Interchange, Slice};
-use crate::style::{Form, Look, Style};
+use crate::style::{Form, Style};
 use crate::text::Text;
 use std::alloc::{AllocError, Global};
 use std::io::Write;
