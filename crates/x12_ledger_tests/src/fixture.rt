@@ -9,14 +9,14 @@ ghost use Rattle.x12_inbound.specs.Filing.{reply_bytes};
 ghost use Rattle.x12_inbound.specs.Arrival.{IsDueReply, arrived_view, arrival};
 ghost use Rattle.x12_ledger_tests.specs.Order.{order_row, pending, holding};
 
-use std::alloc::Global;
+use std::alloc::{AllocError, Global};
 use std::sync::ArcSlice;
 use std::test::Fail;
-use x12_acks::{ReplyHeader, SetKey, needs, write_reply};
+use x12_acks::{Answer, ReplyHeader, SetKey, needs, write_reply};
 use x12_envelopes::{Header, Moment, Party, SetNo};
 use x12_inbound::{Arrived, Seen, look};
-use x12_judge::Judgement;
-use x12_outbound::{Entry, EntryGroup, EntrySet, Fate, Ledger};
+use x12_judge::{Agreement, Judgement};
+use x12_outbound::{Counts, Entry, EntryGroup, EntrySet, Fate, Ledger};
 
 pub(crate) const ALPHA: Party = Party {
     qualifier: *b"ZZ",
@@ -69,7 +69,7 @@ pub(crate) fn order(
     receiver: Party,
     gcn: u32,
     digit: u8,
-) -> Result<Entry, Fail>
+) -> Result<Entry, AllocError>
     ensures { IfOk result (λ e. entry_row e ≡ order_row icn receiver gcn (pending digit ∷ [])) }
 {
     let set = EntrySet::new(number(digit), Fate::Pending);
@@ -87,7 +87,12 @@ pub(crate) fn order(
 }
 
 /// ALPHA's ledger after a restart, with such an interchange 1 in it.
-pub(crate) fn sender(alloc: Global, receiver: Party, gcn: u32, digit: u8) -> Result<Ledger, Fail>
+pub(crate) fn sender(
+    alloc: Global,
+    receiver: Party,
+    gcn: u32,
+    digit: u8,
+) -> Result<Ledger, AllocError>
     ensures holds { IfOk result (λ l.
         l.holds ≡ holding (order_row 1 receiver gcn (pending digit ∷ []))) }
     ensures none_out { IfOk result (λ l. NoneIsOut l.holds) }
@@ -95,8 +100,37 @@ pub(crate) fn sender(alloc: Global, receiver: Party, gcn: u32, digit: u8) -> Res
     let mut sender = Ledger::new(alloc, ALPHA, HUB, None);
     match sender.add_unsent(order(alloc, 1, receiver, gcn, digit)?) {
         Ok(()) => Ok(sender),
-        Err((_, missing)) => Err(missing.into()),
+        Err((_, missing)) => Err(missing),
     }
+}
+
+/// Settles by these answers from this party, as they are planned: which sets get which fate, and the counts.
+pub(crate) fn settle(
+    alloc: Global,
+    sender: &mut Ledger,
+    from: &Party,
+    answers: &[Answer],
+) -> Result<(Vec<(SetKey, Fate)>, Counts), AllocError>
+    requires { NoneIsOut sender.old.holds }
+{
+    let closed = sender.beside();
+    let settling = sender.plan(from, answers, &closed)?;
+    match settling.targets(alloc) {
+        Ok(targets) => Ok((targets, sender.settle_all(settling))),
+        Err(missing) => {
+            settling.abandon();
+            Err(missing)
+        }
+    }
+}
+
+/// What BETA takes: PO850 from ALPHA.
+pub(crate) fn agreements(alloc: Global) -> Result<Vec<Agreement>, AllocError> {
+    let agreement = Agreement {
+        partner: ALPHA,
+        pairs: vec![in alloc; (*b"PO", *b"850")]?,
+    };
+    Ok(vec![in alloc; agreement]?)
 }
 
 /// The reply to an interchange, where one is due, under the numbers 7 and 9.

@@ -6,17 +6,19 @@ ghost use Rattle.x12_outbound.specs.Entry.{entry_row, set_row};
 ghost use Rattle.x12_outbound.specs.Ledger.{NoneIsOut};
 ghost use Rattle.x12_ledger_tests.specs.Large.{AreFewSets, IsOneGroup, HoldsUpTo};
 
-use crate::fixture::{ALPHA, BETA, HUB, number};
+use crate::fixture::{ALPHA, BETA, HUB, number, settle};
+use crate::outcome::unlisted;
 use crate::register::register;
 use std::alloc::{AllocError, Global};
 use std::sync::ArcSlice;
 use std::test::Fail;
 use x12_acks::{Answer, AnswerCode};
-use x12_inbound::SetKey;
+use x12_envelopes::SetNo;
+use x12_inbound::{Register, SetKey};
 use x12_outbound::{Counts, Entry, EntryGroup, EntrySet, Fate, Ledger};
 
 /// So many pending sets.
-fn sets(alloc: Global, count: usize) -> Result<Vec<EntrySet>, Fail>
+fn sets(alloc: Global, count: usize) -> Result<Vec<EntrySet>, AllocError>
     ensures { IfOk result (λ sets. AreFewSets count (map set_row sets.items)) }
 {
     let mut sets = Vec::new(alloc);
@@ -27,7 +29,7 @@ fn sets(alloc: Global, count: usize) -> Result<Vec<EntrySet>, Fail>
 }
 
 /// An interchange to BETA with one group PO of the same number, and so many sets in it.
-fn order(alloc: Global, icn: u32, count: usize) -> Result<Entry, Fail>
+fn order(alloc: Global, icn: u32, count: usize) -> Result<Entry, AllocError>
     requires { count ≤ 400 }
     ensures { IfOk result (λ e. IsOneGroup icn (entry_row e)) }
 {
@@ -45,7 +47,7 @@ fn order(alloc: Global, icn: u32, count: usize) -> Result<Entry, Fail>
 }
 
 /// ALPHA's interchanges 1, 2 and so on, so many, each with so many sets: none was sent yet.
-fn sender(alloc: Global, most: u32, count: usize) -> Result<Ledger, Fail>
+fn sender(alloc: Global, most: u32, count: usize) -> Result<Ledger, AllocError>
     requires { count ≤ 400 }
     ensures held { IfOk result (λ l. HoldsUpTo most l.holds) }
     ensures none_out { IfOk result (λ l. NoneIsOut l.holds) }
@@ -53,43 +55,29 @@ fn sender(alloc: Global, most: u32, count: usize) -> Result<Ledger, Fail>
     let mut sender = Ledger::new(alloc, ALPHA, HUB, None);
     for before in 0..most {
         if let Err((_, missing)) = sender.add_unsent(order(alloc, before + 1, count)?) {
-            return Err(missing.into());
+            return Err(missing);
         }
     }
     Ok(sender)
 }
 
 /// A 997 for each group up to this one, that accepts it.
-fn answers(alloc: Global, most: u32) -> Result<Vec<Answer>, Fail> {
+fn answers(alloc: Global, most: u32) -> Result<Vec<Answer>, AllocError> {
     let mut answers = Vec::new(alloc);
     for before in 0..most {
-        answers.push(Answer::Group {
-            functional: *b"PO",
-            number: before + 1,
-            code: AnswerCode::Accepted,
-            sets: Vec::new(alloc),
-        })?;
+        answers.push(unlisted(alloc, before + 1, AnswerCode::Accepted))?;
     }
     Ok(answers)
 }
 
 /// What settling by these answers from BETA counts, and how many interchanges are open then.
-fn settled(alloc: Global, most: u32, count: usize) -> Result<(usize, Counts, u64), Fail>
+fn settled(alloc: Global, most: u32, count: usize) -> Result<(usize, Counts, u64), AllocError>
     requires { count ≤ 400 }
 {
-    let mut sender = sender(alloc, most, count)?;
     let answers = answers(alloc, most)?;
-    let closed = sender.beside();
-    let settling = sender.plan(&BETA, &answers, &closed)?;
-    let targets = match settling.targets(alloc) {
-        Ok(targets) => targets.len(),
-        Err(missing) => {
-            settling.abandon();
-            return Err(missing.into());
-        }
-    };
-    let counts = sender.settle_all(settling);
-    Ok((targets, counts, sender.open_count()))
+    let mut sender = sender(alloc, most, count)?;
+    let (targets, counts) = settle(alloc, &mut sender, &BETA, &answers)?;
+    Ok((targets.len(), counts, sender.open_count()))
 }
 
 /// So many pieces that settle, and no others.
@@ -103,28 +91,34 @@ fn counts(settled: u64) -> Counts {
     }
 }
 
+/// How many interchanges are due, again once they are sent, and at the next tick.
+fn count_due(sender: &mut Ledger) -> Result<(usize, usize, usize), AllocError> {
+    let first = sender.due(0)?.len();
+    sender.sent(0);
+    let again = sender.due(0)?.len();
+    let next = sender.due(1)?.len();
+    Ok((first, again, next))
+}
+
 #[test]
 fn a_thousand_interchanges_are_due(rt: HostRuntime) -> Result<(), Fail> {
     let mut sender = sender(rt.alloc(), 1000, 1)?;
-    assert_eq!(rt; sender.open_count(), 1000);
-    assert_eq!(rt; sender.due(0)?.len(), 1000);
-    sender.sent(0);
-    assert_eq!(rt; sender.due(0)?.len(), 0);
-    assert_eq!(rt; sender.due(1)?.len(), 1000);
+    assert!(rt; sender.open_count() == 1000);
+    assert!(rt; count_due(&mut sender)? == (1000, 0, 1000));
     Ok(())
 }
 
 #[test]
 fn a_thousand_answers_settle(rt: HostRuntime) -> Result<(), Fail> {
     let settled = settled(rt.alloc(), 1000, 3)?;
-    assert_eq!(rt; settled, (3000, counts(3000), 0));
+    assert!(rt; settled == (3000, counts(3000), 0));
     Ok(())
 }
 
 #[test]
 fn four_hundred_sets_of_a_group_settle(rt: HostRuntime) -> Result<(), Fail> {
     let settled = settled(rt.alloc(), 1, 400)?;
-    assert_eq!(rt; settled, (400, counts(400), 0));
+    assert!(rt; settled == (400, counts(400), 0));
     Ok(())
 }
 
@@ -167,20 +161,23 @@ fn arrival(alloc: Global) -> Result<String, AllocError> {
     Ok(text)
 }
 
-#[test]
-fn four_hundred_orders_in_32_groups_are_posted(rt: HostRuntime) -> Result<(), Fail> {
-    let text = arrival(rt.alloc())?;
-    let register = register(&rt, rt.alloc(), text.as_bytes())?;
-    assert_eq!(rt; register.postings().len(), 400);
+/// The number of the last order's set, where it is posted.
+fn last_number(register: &Register) -> Option<SetNo> {
     let last = SetKey {
         sender: ALPHA,
         icn: 1,
         group: 32,
         set: 13,
     };
-    match register.posted(&last) {
-        Some(posting) => assert_eq!(rt; posting.number.as_bytes(), b"1399".as_slice()),
-        None => return Err(Fail::new("not posted")),
-    }
+    register.posted(&last).map(|posting| posting.number)
+}
+
+#[test]
+fn four_hundred_orders_in_32_groups_are_posted(rt: HostRuntime) -> Result<(), Fail> {
+    let text = arrival(rt.alloc())?;
+    let register = register(&rt, rt.alloc(), text.as_bytes())?;
+    assert!(rt; register.postings().len() == 400);
+    let number = last_number(&register).expect(&rt, "not posted");
+    assert!(rt; number.as_bytes() == b"1399".as_slice());
     Ok(())
 }

@@ -12,6 +12,8 @@ mod large;
 #[cfg(test)]
 mod memory;
 #[cfg(test)]
+mod outcome;
+#[cfg(test)]
 mod plan;
 #[cfg(test)]
 mod register;

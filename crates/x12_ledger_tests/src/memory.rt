@@ -8,13 +8,13 @@ ghost use Rattle.x12_inbound.specs.Filing.{reply_bytes};
 ghost use Rattle.x12_inbound.specs.Arrival.{HasDueReply, arrived_view};
 ghost use Rattle.x12_inbound.specs.Register.{found};
 
-use crate::fixture::{ALPHA, BETA, HUB, first, order, reply};
+use crate::fixture::{ALPHA, BETA, HUB, agreements, first, order, reply};
 use std::alloc::Global;
 use std::process::Abort;
 use std::test::Fail;
 use x12_envelopes::read_header;
 use x12_inbound::{Arrived, Kept, Register};
-use x12_judge::{Agreement, Judgement, judge};
+use x12_judge::{Judgement, judge};
 use x12_outbound::{Entry, Ledger};
 
 const ORDER: &[u8] =
@@ -51,9 +51,8 @@ fn a_refused_entry_is_added_again(rt: HostRuntime) -> Result<(), Fail> {
     let mut sender = Ledger::new(rt.alloc(), ALPHA, HUB, None);
     let entry = order(rt.alloc(), 1, BETA, 1, b'1')?;
     let added = is_added(&mut sender, entry);
-    assert!(rt; added);
-    assert_eq!(rt; sender.open_count(), 1);
-    assert_eq!(rt; count_due(&sender, 1), Some(1));
+    assert!(rt; added && sender.open_count() == 1);
+    assert!(rt; count_due(&sender, 1) == Some(1));
     Ok(())
 }
 
@@ -84,18 +83,14 @@ fn judge_again(
     }
 }
 
-/// Judges and keeps the order at BETA, which takes PO850 from ALPHA.
-fn keep(alloc: Global) -> Result<Kept, Fail> {
-    let header = read_header(ORDER)?;
-    let agreement = Agreement {
-        partner: ALPHA,
-        pairs: vec![in alloc; (*b"PO", *b"850")]?,
-    };
-    let agreements = vec![in alloc; agreement]?;
-    let me = BETA;
-    let judgement = judge(alloc, &me, &agreements, ORDER, &header)?;
-    let reply = reply(alloc, &header, &judgement, &me)?;
-    let arrived = first(&header, ORDER)?;
+/// Judges and keeps an interchange at BETA; where judging is refused, again.
+pub(crate) fn keep(alloc: Global, bytes: &[u8]) -> Result<Kept, Fail> {
+    let header = read_header(bytes)?;
+    let agreements = agreements(alloc)?;
+    let judgement = judge(alloc, &BETA, &agreements, bytes, &header)?;
+    drop(agreements);
+    let reply = reply(alloc, &header, &judgement, &BETA)?;
+    let arrived = first(&header, bytes)?;
     judge_again(arrived, alloc, &judgement, reply)
 }
 
@@ -114,20 +109,20 @@ fn is_filed(rt: &impl Abort, register: &mut Register, kept: Kept) -> bool
     }
 }
 
+/// Whether the order is filed with a reply.
+fn holds_order(register: &Register) -> bool {
+    match register.find(&ALPHA, 1) {
+        Some(filed) => filed.bytes.as_slice() == ORDER && filed.reply.is_some(),
+        None => false,
+    }
+}
+
 #[test]
 fn what_is_refused_is_judged_and_filed_again(rt: HostRuntime) -> Result<(), Fail> {
-    let kept = keep(rt.alloc())?;
+    let kept = keep(rt.alloc(), ORDER)?;
     let mut register = Register::new(rt.alloc());
     let filed = is_filed(&rt, &mut register, kept);
-    assert!(rt; filed);
-    assert_eq!(rt; register.postings().len(), 1);
-    match register.find(&ALPHA, 1) {
-        Some(filed) => assert_eq!(rt;
-            (filed.bytes.as_slice(), filed.reply.is_some()),
-            (ORDER, true)
-        ),
-        None => return Err(Fail::new("not filed")),
-    }
+    assert!(rt; filed && holds_order(&register) && register.postings().len() == 1);
     Ok(())
 }
 

@@ -2,13 +2,12 @@
 
 ghost use Rattle.std.specs.Prelude.{◌≡◌, IfOk};
 
-use crate::fixture::{ALPHA, BETA, FIRST, first, reply};
+use crate::fixture::{ALPHA, BETA, FIRST};
+use crate::memory::keep;
 use std::alloc::{AllocError, Global};
 use std::process::Abort;
 use std::test::Fail;
-use x12_envelopes::read_header;
-use x12_inbound::{Filed, FiledRow, Kept, Register, Seen, SetKey, look};
-use x12_judge::{Agreement, judge};
+use x12_inbound::{Filed, FiledRow, Kept, Posting, Register, Seen, SetKey, look};
 
 const FRONT: &[u8] =
     b"ISA*00*          *00*          *ZZ*ALPHA          *ZZ*BETA           *250102*0930*U*00401*000000001*1*P*:~GS*PO*ALPHA*BETA*20250102*0930*1*X*004010~ST*850*0001~BEG*00*SA*";
@@ -25,24 +24,6 @@ fn order(alloc: Global, number: &[u8], groups: &[u8]) -> Result<Vec<u8>, AllocEr
     Ok(bytes)
 }
 
-/// Judges and keeps an interchange at BETA, which takes PO850 from ALPHA.
-fn keep(alloc: Global, bytes: &[u8]) -> Result<Kept, Fail> {
-    let header = read_header(bytes)?;
-    let agreement = Agreement {
-        partner: ALPHA,
-        pairs: vec![in alloc; (*b"PO", *b"850")]?,
-    };
-    let agreements = vec![in alloc; agreement]?;
-    let me = BETA;
-    let judgement = judge(alloc, &me, &agreements, bytes, &header)?;
-    let reply = reply(alloc, &header, &judgement, &me)?;
-    let arrived = first(&header, bytes)?;
-    match arrived.judge(alloc, &judgement, reply) {
-        Ok(judged) => Ok(judged.keep()),
-        Err(_) => Err(Fail::new("no memory")),
-    }
-}
-
 /// A register with what is kept.
 fn file(rt: &impl Abort, alloc: Global, kept: Kept) -> Register {
     let mut register = Register::new(alloc);
@@ -57,36 +38,44 @@ pub(crate) fn register(rt: &impl Abort, alloc: Global, bytes: &[u8]) -> Result<R
     Ok(file(rt, alloc, kept))
 }
 
+/// Whether the one posting of a register is that of the order.
+fn holds_order(register: &Register) -> bool {
+    let other = SetKey { set: 2, ..FIRST };
+    let is_alone = register.postings().len() == 1 && register.posted(&other).is_none();
+    match register.posted(&FIRST) {
+        Some(posting) => is_alone && is_order(posting),
+        None => false,
+    }
+}
+
+/// Whether a posting is that of the order.
+fn is_order(posting: &Posting) -> bool {
+    let is_set = posting.functional == *b"PO" && posting.set == *b"850";
+    let is_numbered = posting.number.as_bytes() == b"0001".as_slice();
+    posting.bytes.len() == 61 && posting.bytes.as_slice() == SET && is_set && is_numbered
+}
+
 #[test]
 fn an_accepted_order_is_posted(rt: HostRuntime) -> Result<(), Fail> {
     let bytes = order(rt.alloc(), b"PO-1", b"1")?;
     let register = register(&rt, rt.alloc(), &bytes)?;
-    assert_eq!(rt; register.postings().len(), 1);
-    match register.posted(&FIRST) {
-        Some(posting) => {
-            assert_eq!(rt;
-                (posting.bytes.len(), posting.bytes.as_slice() == SET),
-                (61, true)
-            );
-            assert_eq!(rt; (posting.functional, posting.set), (*b"PO", *b"850"));
-            assert_eq!(rt; posting.number.as_bytes(), b"0001".as_slice());
-        }
-        None => return Err(Fail::new("not posted")),
-    }
-    let other = SetKey { set: 2, ..FIRST };
-    assert!(rt; register.posted(&other).is_none());
+    assert!(rt; holds_order(&register));
     Ok(())
+}
+
+/// The reply that is kept, where an interchange of ALPHA's is the same as the filed one of its number.
+fn kept_reply<'a>(register: &'a Register, bytes: &'a [u8]) -> Option<&'a [u8]> {
+    match look(register.find(&ALPHA, 1), &ALPHA, 1, bytes) {
+        Seen::Same(reply) => reply,
+        _ => None,
+    }
 }
 
 #[test]
 fn a_repeat_gets_the_kept_reply(rt: HostRuntime) -> Result<(), Fail> {
     let same = order(rt.alloc(), b"PO-1", b"1")?;
     let register = register(&rt, rt.alloc(), &same)?;
-    let found = register.find(&ALPHA, 1);
-    let reply = match look(found, &ALPHA, 1, &same) {
-        Seen::Same(Some(reply)) => reply,
-        _ => return Err(Fail::new("not the same")),
-    };
+    let reply = kept_reply(&register, &same).expect(&rt, "not the same");
     assert!(rt; reply.starts_with(b"ISA*00*"));
     assert!(rt;
         reply.ends_with(b"AK2*850*0001~AK5*A~AK9*A*1*1*1~SE*6*0001~GE*1*9~IEA*1*000000007~")
@@ -94,39 +83,51 @@ fn a_repeat_gets_the_kept_reply(rt: HostRuntime) -> Result<(), Fail> {
     Ok(())
 }
 
+/// Whether ALPHA's interchange 1 is filed with other bytes than these, and nothing under another number or partner.
+fn is_other(register: &Register, bytes: &[u8]) -> bool {
+    let seen = look(register.find(&ALPHA, 1), &ALPHA, 1, bytes);
+    let is_alone = register.find(&ALPHA, 2).is_none() && register.find(&BETA, 1).is_none();
+    matches!(seen, Seen::Other) && is_alone
+}
+
 #[test]
 fn other_bytes_under_a_used_number_are_seen(rt: HostRuntime) -> Result<(), Fail> {
     let bytes = order(rt.alloc(), b"PO-1", b"1")?;
-    let register = register(&rt, rt.alloc(), &bytes)?;
     let other = order(rt.alloc(), b"PO-2", b"1")?;
-    let found = register.find(&ALPHA, 1);
-    let is_other = matches!(look(found, &ALPHA, 1, &other), Seen::Other);
-    assert!(rt; is_other);
-    assert!(rt; register.find(&ALPHA, 2).is_none() && register.find(&BETA, 1).is_none());
+    let register = register(&rt, rt.alloc(), &bytes)?;
+    assert!(rt; is_other(&register, &other));
     Ok(())
+}
+
+/// Whether ALPHA's interchange 1 is filed with these bytes and a reply.
+fn is_filed(register: &Register, bytes: &[u8]) -> bool {
+    match register.find(&ALPHA, 1) {
+        Some(filed) => filed.bytes.as_slice() == bytes && filed.reply.is_some(),
+        None => false,
+    }
 }
 
 #[test]
 fn a_refused_interchange_is_filed_without_postings(rt: HostRuntime) -> Result<(), Fail> {
     let bytes = order(rt.alloc(), b"PO-1", b"2")?;
     let register = register(&rt, rt.alloc(), &bytes)?;
-    assert_eq!(rt; register.postings().len(), 0);
-    match register.find(&ALPHA, 1) {
-        Some(filed) => assert_eq!(rt; (filed.bytes == bytes, filed.reply.is_some()), (true, true)),
-        None => return Err(Fail::new("not filed")),
-    }
+    assert!(rt; register.postings().is_empty() && is_filed(&register, &bytes));
     Ok(())
+}
+
+/// Whether what is kept is ALPHA's interchange 1 with these bytes, and one posting.
+fn shows(kept: &Kept, bytes: &[u8]) -> bool {
+    let (partner, icn, filed, postings) = kept.view();
+    *partner == ALPHA && icn == 1 && filed.bytes.as_slice() == bytes && postings.len() == 1
 }
 
 #[test]
 fn what_is_kept_can_be_viewed(rt: HostRuntime) -> Result<(), Fail> {
     let bytes = order(rt.alloc(), b"PO-1", b"1")?;
     let kept = keep(rt.alloc(), &bytes)?;
-    let (partner, icn, filed, postings) = kept.view();
-    let shown = (*partner, icn, filed.bytes == bytes, postings.len());
+    let shown = shows(&kept, &bytes);
     let register = file(&rt, rt.alloc(), kept);
-    assert_eq!(rt; shown, (ALPHA, 1, true, 1));
-    assert_eq!(rt; register.postings().len(), 1);
+    assert!(rt; shown && register.postings().len() == 1);
     Ok(())
 }
 
@@ -144,13 +145,18 @@ fn row(alloc: Global, icn: u32) -> Result<FiledRow, AllocError>
     })
 }
 
+/// Whether interchanges of ALPHA's are filed under 1 and 2, and none below or above.
+fn holds_both(register: &Register) -> bool {
+    let none_else = register.find(&ALPHA, 0).is_none() && register.find(&ALPHA, 3).is_none();
+    none_else && register.find(&ALPHA, 1).is_some() && register.find(&ALPHA, 2).is_some()
+}
+
 #[test]
 fn a_register_is_made_of_rows_in_any_order(rt: HostRuntime) -> Result<(), Fail> {
-    let rows = vec![in rt.alloc(); row(rt.alloc(), 2)?, row(rt.alloc(), 1)?]?;
+    let second = row(rt.alloc(), 2)?;
+    let first = row(rt.alloc(), 1)?;
+    let rows = vec![in rt.alloc(); second, first]?;
     let register = Register::from_rows(rows, Vec::new(rt.alloc()));
-    let cases: [(u32, bool); 4] = [(0, false), (1, true), (2, true), (3, false)];
-    for (icn, filed) in cases {
-        assert_eq!(rt; register.find(&ALPHA, icn).is_some(), filed, "{icn}");
-    }
+    assert!(rt; holds_both(&register));
     Ok(())
 }

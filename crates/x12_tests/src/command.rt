@@ -1,8 +1,13 @@
 //! The words of a command, and the run that they ask for.
 
-use crate::fixture::{INTERCHANGE, REPLY};
+use crate::fixture::{INTERCHANGE, REPLY, check_bytes};
+use std::alloc::Global;
+use std::io::Write;
+use std::process::Abort;
 use std::test::Fail;
-use x12_answering::{OptionFault, OptionWords, RunStatus, read_options, run_answer};
+use x12_answering::{
+    OptionFault, OptionWords, Options, RunFault, RunStatus, read_options, run_answer,
+};
 
 /// BETA at 20250102 0931: purchase orders are taken, and the replies are numbered from 1 on.
 pub(crate) const WORDS: OptionWords<'static> = OptionWords {
@@ -14,17 +19,31 @@ pub(crate) const WORDS: OptionWords<'static> = OptionWords {
     pairs: &["PO850"],
 };
 
+/// The options of BETA's words. It promises nothing, so that no caller's proof reads them.
+pub(crate) fn options(rt: &impl Abort, alloc: Global) -> Options {
+    read_options(alloc, &WORDS).expect(rt, "options")
+}
+
+/// Tells how a run over an input ends.
+pub(crate) fn run_over<W: Write, E: Write>(
+    rt: &impl Abort,
+    alloc: Global,
+    input: &[u8],
+    out: &mut W,
+    err: &mut E,
+) -> Result<RunStatus, RunFault> {
+    let options = options(rt, alloc);
+    let mut rest = input;
+    run_answer(alloc, &options, &mut rest, out, err)
+}
+
 #[test]
 fn an_order_is_answered_accepted(rt: HostRuntime) -> Result<(), Fail> {
-    let alloc = rt.alloc();
-    let mut order = INTERCHANGE;
-    let mut out = Vec::new(alloc);
-    let mut err = Vec::new(alloc);
-    let options = read_options(alloc, &WORDS)?;
-    let status = run_answer(alloc, &options, &mut order, &mut out, &mut err)?;
-    assert_eq!(rt; status, RunStatus::Answered);
-    assert_eq!(rt; out.as_slice(), REPLY);
-    assert!(rt; err.is_empty());
+    let mut out = Vec::new(rt.alloc());
+    let mut err = Vec::new(rt.alloc());
+    let status = run_over(&rt, rt.alloc(), INTERCHANGE, &mut out, &mut err)?;
+    assert!(rt; status == RunStatus::Answered && err.is_empty());
+    check_bytes(&rt, "replies", &out, REPLY);
     Ok(())
 }
 
@@ -56,23 +75,32 @@ const WRONG_WORDS: [(OptionWords<'static>, OptionFault); 6] = [
     ),
 ];
 
+/// Whether BETA is to answer, and takes purchase orders.
+fn are_of_beta(options: &Options) -> bool {
+    let takes_orders = options.pairs.as_slice() == [(*b"PO", *b"850")].as_slice();
+    options.me.identifier() == b"BETA".as_slice() && takes_orders
+}
+
 #[test]
-fn words_are_read(rt: HostRuntime) -> Result<(), Fail> {
+fn words_are_read(rt: HostRuntime) {
     let words = OptionWords {
         icn: "999999999",
         gcn: "000000007",
         ..WORDS
     };
-    let options = read_options(rt.alloc(), &words)?;
-    assert_eq!(rt; (options.icn, options.gcn), (999_999_999, 7));
-    assert_eq!(rt; options.me.identifier(), b"BETA".as_slice());
-    assert_eq!(rt; options.pairs.as_slice(), [(*b"PO", *b"850")].as_slice());
-    Ok(())
+    let options = read_options(rt.alloc(), &words).expect(&rt, "options");
+    assert!(rt; are_of_beta(&options) && options.icn == 999_999_999 && options.gcn == 7);
+}
+
+/// Stops the test unless each of these words is refused for its fault.
+fn check_wrong(rt: &impl Abort, alloc: Global, rows: &[(OptionWords<'_>, OptionFault)]) {
+    for (words, fault) in rows {
+        let found = read_options(alloc, words).err();
+        assert!(rt; found == Some(*fault), "{fault:?}");
+    }
 }
 
 #[test]
 fn the_first_wrong_word_is_named(rt: HostRuntime) {
-    for (words, fault) in WRONG_WORDS {
-        assert_eq!(rt; read_options(rt.alloc(), &words).err(), Some(fault));
-    }
+    check_wrong(&rt, rt.alloc(), &WRONG_WORDS);
 }

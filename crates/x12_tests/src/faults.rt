@@ -1,13 +1,13 @@
 //! Readers and writers that fail, and inputs that are too long.
 
-use crate::command::WORDS;
-use crate::fixture::{INTERCHANGE, REPLY};
+use crate::command::{options, run_over};
+use crate::fixture::{INTERCHANGE, REPLY, check_bytes, joined};
 use std::alloc::Global;
 use std::io;
 use std::io::{ErrorKind, Read, Write};
 use std::process::Abort;
 use std::test::Fail;
-use x12_answering::{OptionFault, Options, RunFault, RunStatus, read_options, run_answer};
+use x12_answering::{RunFault, RunStatus, run_answer};
 
 /// A reader that is interrupted some times, and then has nothing.
 #[derive(Drop)]
@@ -100,6 +100,15 @@ struct Narrow {
     taken: Vec<u8>,
 }
 
+impl Narrow {
+    fn new(alloc: Global, room: usize) -> Narrow {
+        Narrow {
+            room,
+            taken: Vec::new(alloc),
+        }
+    }
+}
+
 impl Write for Narrow {
     fn write(&mut self, bytes: &[u8]) -> io::Result<usize> {
         if self.room == 0 {
@@ -117,93 +126,62 @@ impl Write for Narrow {
     }
 }
 
-/// The options of BETA's words. It promises nothing, so that no caller's proof reads them.
-fn options(alloc: Global) -> Result<Options, OptionFault> {
-    read_options(alloc, &WORDS)
-}
-
 /// Stops the test unless a run over a reader ends so, and writes nothing.
 fn check_reader<R: Read>(
-    alloc: Global,
     rt: &impl Abort,
+    alloc: Global,
     shows: &str,
     reader: &mut R,
     end: Result<RunStatus, RunFault>,
-) -> Result<(), Fail> {
-    let options = options(alloc)?;
+) {
+    let options = options(rt, alloc);
     let mut out = Vec::new(alloc);
     let mut err = Vec::new(alloc);
     let ended = run_answer(alloc, &options, reader, &mut out, &mut err);
-    assert_eq!(rt; ended, end, "{shows}");
-    assert!(rt; out.is_empty() && err.is_empty(), "{shows}");
-    Ok(())
+    let wrote = !out.is_empty() || !err.is_empty();
+    assert!(rt; ended == end && !wrote, "{shows}");
+}
+
+/// Stops the test unless a run over a reader that is interrupted so often ends so.
+fn check_interrupted(rt: &impl Abort, alloc: Global, times: u32, end: Result<RunStatus, RunFault>) {
+    let mut reader = Interrupted { times };
+    check_reader(rt, alloc, "interrupted", &mut reader, end);
 }
 
 #[test]
-fn a_thousand_interrupted_reads_are_made_again(rt: HostRuntime) -> Result<(), Fail> {
-    let mut thousand = Interrupted { times: 1000 };
-    check_reader(
-        rt.alloc(),
-        &rt,
-        "1000 times",
-        &mut thousand,
-        Ok(RunStatus::Answered),
-    )?;
-    let mut one_more = Interrupted { times: 1001 };
-    check_reader(
-        rt.alloc(),
-        &rt,
-        "1001 times",
-        &mut one_more,
-        Err(RunFault::Read),
-    )
+fn a_thousand_interrupted_reads_are_made_again(rt: HostRuntime) {
+    check_interrupted(&rt, rt.alloc(), 1000, Ok(RunStatus::Answered));
+    check_interrupted(&rt, rt.alloc(), 1001, Err(RunFault::Read));
+}
+
+/// Stops the test unless a run over a reader that fails for this reason ends so.
+fn check_broken(rt: &impl Abort, alloc: Global, kind: ErrorKind, fault: RunFault) {
+    let mut broken = Broken { kind };
+    check_reader(rt, alloc, "no bytes", &mut broken, Err(fault));
 }
 
 #[test]
-fn a_reader_that_fails_stops_the_run(rt: HostRuntime) -> Result<(), Fail> {
-    let mut broken = Broken {
-        kind: ErrorKind::Other,
-    };
-    check_reader(
-        rt.alloc(),
-        &rt,
-        "no bytes",
-        &mut broken,
-        Err(RunFault::Read),
-    )
+fn a_reader_that_fails_stops_the_run(rt: HostRuntime) {
+    check_broken(&rt, rt.alloc(), ErrorKind::Other, RunFault::Read);
 }
 
 /// A reader for which memory is missing hasn't failed: the run says so.
 #[test]
-fn a_reader_that_misses_memory_stops_the_run(rt: HostRuntime) -> Result<(), Fail> {
-    let mut broken = Broken {
-        kind: ErrorKind::OutOfMemory,
-    };
-    check_reader(
-        rt.alloc(),
-        &rt,
-        "no memory",
-        &mut broken,
-        Err(RunFault::Memory),
-    )
+fn a_reader_that_misses_memory_stops_the_run(rt: HostRuntime) {
+    check_broken(&rt, rt.alloc(), ErrorKind::OutOfMemory, RunFault::Memory);
 }
 
 /// What came before the fault isn't answered, though it is a whole order.
 #[test]
-fn a_reader_that_fails_behind_an_order_leaves_nothing(rt: HostRuntime) -> Result<(), Fail> {
+fn a_reader_that_fails_behind_an_order_leaves_nothing(rt: HostRuntime) {
     let mut torn = Torn { text: INTERCHANGE };
-    check_reader(rt.alloc(), &rt, "an order", &mut torn, Err(RunFault::Read))
+    check_reader(&rt, rt.alloc(), "an order", &mut torn, Err(RunFault::Read));
 }
 
 #[test]
-fn an_endless_input_is_too_long(rt: HostRuntime) -> Result<(), Fail> {
-    check_reader(
-        rt.alloc(),
-        &rt,
-        "no end",
-        &mut Endless,
-        Err(RunFault::TooLong),
-    )
+fn an_endless_input_is_too_long(rt: HostRuntime) {
+    let end = Err(RunFault::TooLong);
+    check_reader(&rt, rt.alloc(), "no end", &mut Endless, end);
 }
 
 #[test]
@@ -211,29 +189,22 @@ fn an_input_that_is_too_long_is_not_answered(rt: HostRuntime) -> Result<(), Fail
     let mut long = Vec::new(rt.alloc());
     long.resize(16_777_217, b'x')?;
     let mut rest = long.as_slice();
-    check_reader(
-        rt.alloc(),
-        &rt,
-        "one byte more",
-        &mut rest,
-        Err(RunFault::TooLong),
-    )
+    let end = Err(RunFault::TooLong);
+    check_reader(&rt, rt.alloc(), "one byte more", &mut rest, end);
+    Ok(())
 }
 
 /// Interrupted and short writes are gone on with; a flush that fails stops the run.
 #[test]
-fn a_writer_that_cannot_be_flushed_stops_the_run(rt: HostRuntime) -> Result<(), Fail> {
-    let options = options(rt.alloc())?;
+fn a_writer_that_cannot_be_flushed_stops_the_run(rt: HostRuntime) {
     let mut out = Unflushed {
         is_interrupted: false,
         taken: Vec::new(rt.alloc()),
     };
     let mut err = Vec::new(rt.alloc());
-    let mut rest = INTERCHANGE;
-    let ended = run_answer(rt.alloc(), &options, &mut rest, &mut out, &mut err);
-    assert_eq!(rt; ended, Err(RunFault::Write));
-    assert_eq!(rt; out.taken.as_slice(), REPLY);
-    Ok(())
+    let ended = run_over(&rt, rt.alloc(), INTERCHANGE, &mut out, &mut err);
+    assert!(rt; ended == Err(RunFault::Write));
+    check_bytes(&rt, "replies", &out.taken, REPLY);
 }
 
 /// A run of which a writer failed: what both took.
@@ -246,54 +217,43 @@ struct Stopped {
 /// Runs over an input with this much room for replies and for lines, and stops the test unless a write
 /// fails.
 fn run_until_stopped(
-    alloc: Global,
     rt: &impl Abort,
+    alloc: Global,
     input: &[u8],
     out_room: usize,
     err_room: usize,
-) -> Result<Stopped, Fail> {
-    let options = options(alloc)?;
-    let mut out = Narrow {
-        room: out_room,
-        taken: Vec::new(alloc),
-    };
-    let mut err = Narrow {
-        room: err_room,
-        taken: Vec::new(alloc),
-    };
-    let mut rest = input;
-    let ended = run_answer(alloc, &options, &mut rest, &mut out, &mut err);
-    assert_eq!(rt; ended, Err(RunFault::Write), "{out_room} and {err_room}");
-    Ok(Stopped {
+) -> Stopped {
+    let mut out = Narrow::new(alloc, out_room);
+    let mut err = Narrow::new(alloc, err_room);
+    let ended = run_over(rt, alloc, input, &mut out, &mut err);
+    assert!(rt; ended == Err(RunFault::Write), "{out_room} and {err_room}");
+    Stopped {
         out: out.taken,
         err: err.taken,
-    })
+    }
 }
 
 /// Stops the test unless so many bytes were taken, and a text begins with them.
 fn check_taken(rt: &impl Abort, taken: &[u8], room: usize, text: &[u8]) {
-    assert_eq!(rt; taken.len(), room);
-    assert!(rt; text.starts_with(taken), "{room}");
+    assert!(rt; taken.len() == room && text.starts_with(taken), "{room}");
 }
 
 /// The line on an interchange can't be written: the replies before it stand.
 #[test]
 fn lines_that_cannot_be_written_stop_the_run(rt: HostRuntime) -> Result<(), Fail> {
-    let mut input = Vec::from_slice(rt.alloc(), INTERCHANGE)?;
-    input.extend_from_slice(b"JSA")?;
+    let input = joined(rt.alloc(), &[INTERCHANGE, b"JSA"])?;
     for room in 0..18 {
-        let stopped = run_until_stopped(rt.alloc(), &rt, input.as_slice(), 1000, room)?;
+        let stopped = run_until_stopped(&rt, rt.alloc(), &input, 1000, room);
         check_taken(&rt, stopped.err.as_slice(), room, b"interchange 2: H2\n");
-        assert_eq!(rt; stopped.out.len(), 265, "{room}");
+        assert!(rt; stopped.out.len() == 265, "{room}");
     }
     Ok(())
 }
 
 #[test]
-fn a_writer_that_fails_stops_the_run(rt: HostRuntime) -> Result<(), Fail> {
+fn a_writer_that_fails_stops_the_run(rt: HostRuntime) {
     for room in 0..265 {
-        let stopped = run_until_stopped(rt.alloc(), &rt, INTERCHANGE, room, 1000)?;
+        let stopped = run_until_stopped(&rt, rt.alloc(), INTERCHANGE, room, 1000);
         check_taken(&rt, stopped.out.as_slice(), room, REPLY);
     }
-    Ok(())
 }

@@ -1,6 +1,9 @@
 //! What the tests share: parties, delimiters, an order and its reply, and judgements of an order.
 
+ghost use Rattle.std.specs.Prelude.{◌≡◌};
+
 use std::alloc::{AllocError, Global};
+use std::process::Abort;
 use x12_envelopes::{Delims, Header, Party, SetNo};
 use x12_judge::{GroupVerdict, Judgement, Note, SetCode, SetNote, SetVerdict, Verdict};
 
@@ -42,8 +45,15 @@ pub(crate) fn joined(alloc: Global, pieces: &[&[u8]]) -> Result<Vec<u8>, AllocEr
     pieces.concat(alloc)
 }
 
+/// Stops the test unless these are the bytes that are wanted.
+pub(crate) fn check_bytes(rt: &impl Abort, name: &str, found: &[u8], want: &[u8]) {
+    assert_eq!(rt; found, want, "{name}");
+}
+
 /// The header of the order that ALPHA sends BETA.
-pub(crate) fn order() -> Header {
+pub(crate) fn order() -> Header
+    ensures { result.icn ≡ 1 }
+{
     Header {
         delims: STARS,
         sender: ALPHA,
@@ -104,20 +114,17 @@ pub(crate) fn one<'a>(
     notes: &[SetNote<'a>],
 ) -> Result<Judgement<'a>, AllocError> {
     let accepted = u32::from(codes.is_empty());
-    let mut sets = Vec::new(alloc);
-    sets.push(set(alloc, b'1', codes, notes)?)?;
-    judged(alloc, group(1, accepted, sets))
+    let set = set(alloc, b'1', codes, notes)?;
+    judged(alloc, group(1, accepted, vec![in alloc; set]?))
 }
 
 pub(crate) fn judged<'a>(
     alloc: Global,
     verdict: GroupVerdict<'a>,
 ) -> Result<Judgement<'a>, AllocError> {
-    let mut groups = Vec::new(alloc);
-    groups.push(verdict)?;
     Ok(Judgement {
         silent: false,
-        verdict: Verdict::Judged(groups),
+        verdict: Verdict::Judged(vec![in alloc; verdict]?),
     })
 }
 

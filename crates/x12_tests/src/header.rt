@@ -3,6 +3,8 @@
 ghost use Rattle.std.specs.Prelude.{◌<◌};
 
 use crate::fixture::{ALPHA, BETA, HEADER, STARS};
+use std::alloc::{AllocError, Global};
+use std::process::Abort;
 use std::test::Fail;
 use x12_envelopes::{Header, HeaderFault, read_header};
 
@@ -15,35 +17,39 @@ fn changed(at: usize, byte: u8) -> [u8; 106]
     bytes
 }
 
+/// The accepted order's header, and spaces up to this length.
+fn padded(alloc: Global, len: usize) -> Result<Vec<u8>, AllocError> {
+    let mut bytes = Vec::from_slice(alloc, &HEADER)?;
+    bytes.resize(len, b' ')?;
+    Ok(bytes)
+}
+
 #[test]
 fn a_header_is_read_up_to_its_limits(rt: HostRuntime) -> Result<(), Fail> {
-    assert_eq!(rt; read_header(&[]), Err(HeaderFault::TooShort));
-    assert_eq!(rt; read_header(&HEADER[..105]), Err(HeaderFault::TooShort));
-    let mut bytes = Vec::from_slice(rt.alloc(), &HEADER)?;
-    bytes.resize(1_048_576, b' ')?;
-    assert!(rt; read_header(&bytes).is_ok());
-    bytes.push(b' ')?;
-    assert_eq!(rt; read_header(&bytes), Err(HeaderFault::TooLong));
+    assert!(rt; read_header(&[]) == Err(HeaderFault::TooShort));
+    assert!(rt; read_header(&HEADER[..105]) == Err(HeaderFault::TooShort));
+    assert!(rt; read_header(&padded(rt.alloc(), 1_048_576)?).is_ok());
+    assert!(rt; read_header(&padded(rt.alloc(), 1_048_577)?) == Err(HeaderFault::TooLong));
     Ok(())
 }
 
 #[test]
 fn a_header_says_its_fields(rt: HostRuntime) -> Result<(), Fail> {
     let header = read_header(&HEADER)?;
-    assert_eq!(rt;
-        header,
-        Header {
-            delims: STARS,
-            sender: ALPHA,
-            receiver: BETA,
-            date: *b"250102",
-            time: *b"0930",
-            standard: b'U',
-            version: *b"00401",
-            icn: 1,
-            ack: b'1',
-            usage: b'P',
-        }
+    assert!(rt;
+        header
+            == Header {
+                delims: STARS,
+                sender: ALPHA,
+                receiver: BETA,
+                date: *b"250102",
+                time: *b"0930",
+                standard: b'U',
+                version: *b"00401",
+                icn: 1,
+                ack: b'1',
+                usage: b'P',
+            }
     );
     Ok(())
 }
@@ -64,14 +70,24 @@ fn a_header_has_its_first_fault(rt: HostRuntime) {
         // A control number with a letter.
         (changed(98, b'O'), HeaderFault::BadField),
     ];
-    for (bytes, want) in cases {
-        assert_eq!(rt; read_header(&bytes), Err(want));
+    for (bytes, want) in &cases {
+        assert!(rt; read_header(bytes) == Err(*want), "{want:?}");
+    }
+}
+
+/// Stops the test unless each fault has its number.
+fn check_numbers(rt: &impl Abort, rows: &[(HeaderFault, &str)]) {
+    for (fault, number) in rows {
+        assert!(rt; fault.number() == *number, "{number}");
     }
 }
 
 #[test]
 fn each_fault_of_a_header_has_its_number(rt: HostRuntime) {
-    assert_eq!(rt; HeaderFault::NotIsa.number(), "H3");
-    assert_eq!(rt; HeaderFault::BadDelimiters.number(), "H4");
-    assert_eq!(rt; HeaderFault::BadField.number(), "H5");
+    let rows = [
+        (HeaderFault::NotIsa, "H3"),
+        (HeaderFault::BadDelimiters, "H4"),
+        (HeaderFault::BadField, "H5"),
+    ];
+    check_numbers(&rt, &rows);
 }

@@ -1,12 +1,12 @@
 //! In which pieces replies and lines are written: large ones, as they come.
 
-use crate::command::WORDS;
-use std::alloc::Global;
+use crate::command::run_over;
+use std::alloc::{AllocError, Global};
 use std::io;
 use std::io::{ErrorKind, Write};
 use std::process::Abort;
 use std::test::Fail;
-use x12_answering::{RunFault, RunStatus, read_options, run_answer};
+use x12_answering::{RunFault, RunStatus};
 
 /// An interchange whose separators are one byte, which leaves a line.
 const UNREADABLE: &str =
@@ -53,59 +53,56 @@ impl Write for Closed {
     }
 }
 
-/// Runs over some of each text, one behind the other, and tells how the run ended.
-fn run_over<W: Write, E: Write>(
+/// Some of a text, and behind them some of another.
+fn some_of_both(
     alloc: Global,
-    texts: [(&str, usize); 2],
-    out: &mut W,
-    err: &mut E,
-) -> Result<Result<RunStatus, RunFault>, Fail> {
-    let options = read_options(alloc, &WORDS)?;
-    let [(first, firsts), (second, seconds)] = texts;
-    let front = first.repeat(alloc, firsts)?;
-    let back = second.repeat(alloc, seconds)?;
-    let input = [front.as_str(), back.as_str()].concat(alloc)?;
-    let mut rest = input.as_bytes();
-    Ok(run_answer(alloc, &options, &mut rest, out, err))
+    front: (&str, usize),
+    back: (&str, usize),
+) -> Result<String, AllocError> {
+    let fronts = front.0.repeat(alloc, front.1)?;
+    let backs = back.0.repeat(alloc, back.1)?;
+    [fronts.as_str(), backs.as_str()].concat(alloc)
 }
 
 /// Stops the test unless a writer took one piece alone, of no more than it takes with this much behind.
 fn is_one_piece(rt: &impl Abort, pieces: &[usize], most_behind: usize) {
-    assert_eq!(rt; pieces.len(), 1);
+    assert!(rt; pieces.len() == 1);
     for piece in pieces {
         assert!(rt; *piece >= PIECE && *piece - PIECE < most_behind, "{piece}");
     }
 }
 
+/// Stops the test unless there are five pieces, of which all but the last are large.
+fn are_large(rt: &impl Abort, pieces: &[usize]) {
+    assert!(rt; pieces.len() == 5);
+    let (large, _) = pieces.split_at(4);
+    for piece in large {
+        assert!(rt; *piece >= PIECE, "{piece}");
+    }
+}
+
 #[test]
 fn each_piece_but_the_last_is_large(rt: HostRuntime) -> Result<(), Fail> {
+    let input = ORDER.repeat(rt.alloc(), 1000)?;
     let mut out = Counting {
         pieces: Vec::new(rt.alloc()),
     };
     let mut err = Vec::new(rt.alloc());
-    let ended = run_over(rt.alloc(), [(ORDER, 1000), ("", 0)], &mut out, &mut err)?;
-    assert_eq!(rt; ended, Ok(RunStatus::Answered));
-    assert_eq!(rt; out.pieces.len(), 5);
-    let (large, _) = out.pieces.split_at(4);
-    for piece in large {
-        assert!(rt; *piece >= PIECE, "{piece}");
-    }
+    let ended = run_over(&rt, rt.alloc(), input.as_bytes(), &mut out, &mut err);
+    assert!(rt; ended == Ok(RunStatus::Answered));
+    are_large(&rt, out.pieces.as_slice());
     Ok(())
 }
 
 /// The first lines can't be written, behind 300 orders: the first replies are, and no more of them.
 #[test]
 fn replies_are_written_as_they_come(rt: HostRuntime) -> Result<(), Fail> {
+    let input = some_of_both(rt.alloc(), (ORDER, 300), (UNREADABLE, 4000))?;
     let mut out = Counting {
         pieces: Vec::new(rt.alloc()),
     };
-    let ended = run_over(
-        rt.alloc(),
-        [(ORDER, 300), (UNREADABLE, 4000)],
-        &mut out,
-        &mut Closed,
-    )?;
-    assert_eq!(rt; ended, Err(RunFault::Write));
+    let ended = run_over(&rt, rt.alloc(), input.as_bytes(), &mut out, &mut Closed);
+    assert!(rt; ended == Err(RunFault::Write));
     is_one_piece(&rt, out.pieces.as_slice(), REPLY);
     Ok(())
 }
@@ -113,16 +110,12 @@ fn replies_are_written_as_they_come(rt: HostRuntime) -> Result<(), Fail> {
 /// The first reply can't be written, behind 4,000 lines: the first lines are, and no more of them.
 #[test]
 fn lines_are_written_as_they_come(rt: HostRuntime) -> Result<(), Fail> {
+    let input = some_of_both(rt.alloc(), (UNREADABLE, 4000), (ORDER, 1))?;
     let mut err = Counting {
         pieces: Vec::new(rt.alloc()),
     };
-    let ended = run_over(
-        rt.alloc(),
-        [(UNREADABLE, 4000), (ORDER, 1)],
-        &mut Closed,
-        &mut err,
-    )?;
-    assert_eq!(rt; ended, Err(RunFault::Write));
+    let ended = run_over(&rt, rt.alloc(), input.as_bytes(), &mut Closed, &mut err);
+    assert!(rt; ended == Err(RunFault::Write));
     is_one_piece(&rt, err.pieces.as_slice(), b"interchange 4000: H4\n".len());
     Ok(())
 }

@@ -3,4 +3,4 @@ use Rattle.x12_ledger_tests.proofs.register.a_register_is_made_of_rows_in_any_or
 
 pub from_rows-register-requires : goal.from_rows-register-requires
 from_rows-register-requires g c =
-    two_rows _ _ c.in_ok-row.field-0 c.in_ok-row-2.field-0 c.in_ok-rows.ensures.items c.new.ensures.items c.in_ok-row.ensures c.in_ok-row-2.ensures
+    two_rows _ _ c.in_ok-second.second c.in_ok-first.first c.in_ok-rows.ensures.items c.new.ensures.items c.in_ok-second.ensures c.in_ok-first.ensures

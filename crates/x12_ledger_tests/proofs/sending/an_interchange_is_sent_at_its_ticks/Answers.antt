@@ -1,5 +1,5 @@
 use Rattle.x12_ledger_tests.proofs.OrderLemmas.{first_next}
 use Rattle.x12_ledger_tests.proofs.sending.an_interchange_is_sent_at_its_ticks.Goals as goal
 
-pub add-sent-requires : goal.add-sent-requires
-add-sent-requires g c = first_next _ _ _ _ _ _ _ _ c.new-sender.ensures c.in_ok-order.ensures
+pub add-requires : goal.add-requires
+add-requires g c = first_next _ _ _ _ _ _ _ _ c.new-sender.ensures c.in_ok-entry.ensures

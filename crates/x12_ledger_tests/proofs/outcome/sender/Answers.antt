@@ -1,5 +1,5 @@
 use Rattle.x12_ledger_tests.proofs.PlanLemmas.{is_order, first_next, first_rows, second_next, none_out}
-use Rattle.x12_ledger_tests.proofs.plan.sender.Goals as goal
+use Rattle.x12_ledger_tests.proofs.outcome.sender.Goals as goal
 
 -- the first interchange, and then the second
 pub add-requires : goal.add-requires
