@@ -6,6 +6,8 @@ mod fixture;
 #[cfg(test)]
 mod hub;
 #[cfg(test)]
+mod hub_fixture;
+#[cfg(test)]
 mod hub_records;
 #[cfg(test)]
 mod kept_hub;
@@ -31,6 +33,8 @@ mod station_limits;
 mod station_orders;
 #[cfg(test)]
 mod station_records;
+#[cfg(test)]
+mod station_stories;
 #[cfg(test)]
 mod station_ticks;
 #[cfg(test)]

@@ -2,7 +2,7 @@
 //! would have done.
 
 use crate::fixture::{ALPHA, BETA, HUB, OTHER};
-use crate::hub_records::{failing, failing_other};
+use crate::hub_fixture::{failing, failing_other};
 use crate::kept_station::RecordsOfStation;
 use crate::station_fixture::failing_station;
 use crate::two_hubs::{COMES_BACK, ENROLLED, GOES_AGAIN, GOES_OUT};
@@ -33,11 +33,11 @@ fn stations(rt: &impl Abort, alloc: Global) -> Vec<Station<Failing<RecordsOfStat
 }
 
 /// The network of both, and of two hubs.
-fn network(rt: &impl Abort, alloc: Global, passes: Passes) -> Result<FailingNet, Fail> {
-    let hub = failing(rt, alloc, passes.first)?;
-    let second = failing_other(rt, alloc, passes.second)?;
+fn network(rt: &impl Abort, alloc: Global, passes: Passes) -> FailingNet {
+    let hub = failing(rt, alloc, passes.first);
+    let second = failing_other(rt, alloc, passes.second);
     match World::new(alloc, hub, Some(second), stations(rt, alloc)) {
-        Ok(world) => Ok(world),
+        Ok(world) => world,
         Err(_) => panic!(rt; "no network"),
     }
 }
@@ -53,7 +53,7 @@ fn goes_on(rt: &impl Abort, alloc: Global, world: &mut FailingNet) -> Result<(),
 
 /// Plays it, and counts the failures of each hub's device.
 fn failures(rt: &impl Abort, alloc: Global, passes: Passes) -> Result<(u64, u64), Fail> {
-    let mut world = network(rt, alloc, passes)?;
+    let mut world = network(rt, alloc, passes);
     let story = goes_on(rt, alloc, &mut world);
     let (hub, second, stations) = world.end();
     let _ = close(rt, stations);

@@ -1,11 +1,12 @@
 //! Which nodes make a network of two hubs, and which make none.
 
 use crate::fixture::{ALPHA, BETA, GAMMA, HUB, OTHER};
+use crate::hub_fixture::{hub_of, new_hub};
 use crate::kept_hub::RecordsOfHub;
 use crate::kept_station::RecordsOfStation;
 use crate::world_fixture::{
-    Line, Net, both, close, end, half_past_nine, hub_of, new_hub, new_station, other_hub, refuses,
-    station_of, stations_of_two_hubs, two_stations,
+    Line, Net, both, close, end, half_past_nine, new_station, other_hub, refuses, station_of,
+    stations_of_two_hubs, two_stations,
 };
 use std::alloc::Global;
 use std::process::Abort;

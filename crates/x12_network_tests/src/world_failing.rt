@@ -1,7 +1,7 @@
 //! A network in which a device fails once: each event that is refused for it, made again, does what it would have done.
 
 use crate::fixture::FIRST;
-use crate::hub_records::failing;
+use crate::hub_fixture::failing;
 use crate::kept_hub::RecordsOfHub;
 use crate::kept_station::RecordsOfStation;
 use crate::station_fixture::{failing_alpha, failing_beta};
@@ -41,10 +41,10 @@ fn stations(rt: &impl Abort, alloc: Global, beta: u64) -> Vec<Station<Failing<Re
 }
 
 /// The network of both, and a hub.
-fn network(rt: &impl Abort, alloc: Global, passes: Passes) -> Result<FailingNet, Fail> {
-    let hub = failing(rt, alloc, passes.hub)?;
+fn network(rt: &impl Abort, alloc: Global, passes: Passes) -> FailingNet {
+    let hub = failing(rt, alloc, passes.hub);
     match World::new(alloc, hub, None, stations(rt, alloc, passes.beta)) {
-        Ok(world) => Ok(world),
+        Ok(world) => world,
         Err(_) => panic!(rt; "no network"),
     }
 }
@@ -114,7 +114,7 @@ fn goes_on(rt: &impl Abort, alloc: Global, world: &mut FailingNet) -> Result<(),
 
 /// Plays it, and counts the failures of all devices.
 fn failures(rt: &impl Abort, alloc: Global, passes: Passes) -> Result<u64, Fail> {
-    let mut world = network(rt, alloc, passes)?;
+    let mut world = network(rt, alloc, passes);
     let story = goes_on(rt, alloc, &mut world);
     let (hub, _, stations) = world.end();
     let mut failures = hub.failures();

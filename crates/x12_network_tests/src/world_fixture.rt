@@ -4,7 +4,8 @@ ghost use Rattle.std.specs.Prelude.{IsTrue};
 ghost use Rattle.x12_envelopes.specs.Party.{is_plain_party};
 
 use crate::fixture::{ALPHA, BETA, HUB, OTHER};
-use crate::kept_hub::{RecordsOfHub, records_of_hub};
+use crate::hub_fixture::{hub_of, new_hub};
+use crate::kept_hub::RecordsOfHub;
 use crate::kept_station::{RecordsOfStation, records_of_station};
 use std::alloc::{AllocError, Global};
 use std::process::Abort;
@@ -191,21 +192,6 @@ pub(crate) fn carries(world: &Net, event: u64, place: u32, bytes: &[u8]) -> bool
         },
         None => false,
     }
-}
-
-/// A new hub of a party.
-pub(crate) fn hub_of(rt: &impl Abort, alloc: Global, me: Party) -> Hub<RecordsOfHub>
-    requires { IsTrue (is_plain_party me) }
-{
-    Hub::open(alloc, me, records_of_hub(rt, alloc, me))
-        .ok()
-        .expect(rt, "not opened")
-}
-
-/// A new hub of HUB.
-#[tactic(auto, unfolding(x12_envelopes::specs::Party::is_plain_party))]
-pub(crate) fn new_hub(rt: &impl Abort, alloc: Global) -> Hub<RecordsOfHub> {
-    hub_of(rt, alloc, HUB)
 }
 
 /// A new hub of OTHER.

@@ -2,11 +2,12 @@
 
 use crate::fixture::{ALPHA, BETA, FIRST, GAMMA, HUB};
 use crate::hub::ORDER;
+use crate::hub_fixture::new_hub;
 use crate::kept_hub::RecordsOfHub;
 use crate::kept_station::RecordsOfStation;
 use crate::world_fixture::{
-    Line, Net, Told, carries, close, end, events, half_past_nine, network, new_hub, new_station,
-    plays, refuses, two_stations,
+    Line, Net, Told, carries, close, end, events, half_past_nine, network, new_station, plays,
+    refuses, two_stations,
 };
 use std::alloc::Global;
 use std::process::Abort;
