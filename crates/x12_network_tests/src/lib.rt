@@ -54,8 +54,12 @@ mod world_fixture;
 #[cfg(test)]
 mod world_memory;
 #[cfg(test)]
+mod world_nodes;
+#[cfg(test)]
 mod world_outsiders;
 #[cfg(test)]
 mod world_refusals;
 #[cfg(test)]
 mod world_story;
+#[cfg(test)]
+mod world_tales;
