@@ -1,7 +1,8 @@
-//! What the tests share: parties, and the key of a set.
+//! What the tests share: parties, the key of a set, and a moment.
 
+use std::process::Abort;
 use x12_acks::SetKey;
-use x12_envelopes::Party;
+use x12_envelopes::{Moment, Party};
 
 pub(crate) const ALPHA: Party = Party {
     qualifier: *b"ZZ",
@@ -36,3 +37,8 @@ pub(crate) const FIRST: SetKey = SetKey {
     group: 1,
     set: 1,
 };
+
+/// 2 January 2025, 09:31.
+pub(crate) fn at(rt: &impl Abort) -> Moment {
+    Moment::new(*b"20250102", *b"0931").expect(rt, "no moment")
+}

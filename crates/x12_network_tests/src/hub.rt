@@ -1,13 +1,11 @@
 //! What a hub decides on deposited interchanges, and what waits in its mailboxes.
 
-use crate::fixture::{ALPHA, BETA, HUB};
-use crate::kept_hub::{RecordsOfHub, records_of_hub};
+use crate::fixture::{ALPHA, BETA, HUB, at};
+use crate::hub_fixture::new_hub;
 use std::alloc::Global;
 use std::process::Abort;
-use std::test::Fail;
 use x12_envelopes::{HeaderFault, Moment, Party};
 use x12_hub::{Decision, Hub, HubFault, HubRecords};
-use x12_samples::moment;
 
 /// ALPHA's order to BETA, with interchange number 1.
 pub(crate) const ORDER: &[u8] =
@@ -21,30 +19,8 @@ pub(crate) const SECOND: &[u8] =
 pub(crate) const REFUSAL: &[u8] =
     b"ISA*00*          *00*          *ZZ*HUB            *ZZ*ALPHA          *250102*0931*U*00401*000000001*0*P*:~TA1*000000001*250102*0930*R*009~IEA*0*000000001~";
 
-/// A hub over new records.
-#[tactic(auto, unfolding(x12_envelopes::specs::Party::is_plain_party))]
-fn new_hub(rt: &impl Abort, alloc: Global) -> Result<Hub<RecordsOfHub>, Fail> {
-    match Hub::open(alloc, HUB, records_of_hub(rt, alloc, HUB)) {
-        Ok(hub) => Ok(hub),
-        Err(_) => Err(Fail::new("not opened")),
-    }
-}
-
-/// A hub with these parties, each with its node.
-fn hub_of(
-    rt: &impl Abort,
-    alloc: Global,
-    parties: &[(Party, u16)],
-) -> Result<Hub<RecordsOfHub>, Fail> {
-    let mut hub = new_hub(rt, alloc)?;
-    for (party, node) in parties {
-        hub.enrol(*party, *node)?;
-    }
-    Ok(hub)
-}
-
 /// The mailbox and the item of a decision.
-pub(crate) fn boxed(decision: &Decision) -> Option<(u16, u32)> {
+fn boxed(decision: &Decision) -> Option<(u16, u32)> {
     match decision {
         Decision::Boxed { node, item } => Some((*node, *item)),
         Decision::Refused(_) => None,
@@ -52,7 +28,7 @@ pub(crate) fn boxed(decision: &Decision) -> Option<(u16, u32)> {
 }
 
 /// Whether a decision is a refusal with these bytes.
-pub(crate) fn is_refused_with(decision: &Decision, reply: &[u8]) -> bool {
+fn is_refused_with(decision: &Decision, reply: &[u8]) -> bool {
     match decision {
         Decision::Boxed { .. } => false,
         Decision::Refused(bytes) => bytes.as_slice() == reply,
@@ -65,7 +41,7 @@ fn holds<H: HubRecords>(
     node: u16,
     item: u32,
     bytes: &[u8],
-) -> Result<bool, Fail> {
+) -> Result<bool, HubFault> {
     let collected = hub.collect(node)?;
     Ok(match collected.as_slice() {
         [(number, found)] => *number == item && found.as_slice() == bytes,
@@ -74,8 +50,8 @@ fn holds<H: HubRecords>(
 }
 
 /// What a hub is asked.
-#[derive(Clone, Copy, Debug)]
-enum Ask {
+#[derive(Clone, Copy)]
+pub(crate) enum Ask {
     /// A party is enrolled for a node.
     Enrol(Party, u16),
     /// A party is dismissed: whether it was enrolled.
@@ -90,11 +66,15 @@ enum Ask {
     Wait(u16, &'static [u32]),
     /// Whether one item alone waits for a node, with these bytes.
     Hold(u16, u32, &'static [u8]),
+    /// Whether so many items are collected for a node.
+    Collect(u16, usize),
+    /// It starts anew.
+    Restart,
 }
 
 /// What it answers.
 #[derive(Clone, Copy, Debug, PartialEq, Eq)]
-enum Answer {
+pub(crate) enum Answer {
     /// The bytes wait for a node, as this item.
     Boxed(u16, u32),
     /// Yes.
@@ -117,38 +97,58 @@ fn place_of(decision: &Decision) -> Answer {
 }
 
 /// What a hub answers.
-fn answered<H: HubRecords>(hub: &mut Hub<H>, ask: &Ask) -> Result<Answer, Fail> {
-    let at = moment()?;
-    Ok(match *ask {
-        Ask::Enrol(party, node) => {
-            hub.enrol(party, node)?;
-            Answer::Yes
+fn answered<H: HubRecords>(hub: &mut Hub<H>, ask: &Ask, at: &Moment) -> Result<Answer, HubFault> {
+    match *ask {
+        Ask::Enrol(party, node) => hub.enrol(party, node).map(|()| Answer::Yes),
+        Ask::Dismiss(party) => hub.dismiss(&party).map(whether),
+        Ask::Deposit(bytes) => Ok(place_of(&hub.deposit(bytes, at)?)),
+        Ask::Refuse(bytes, reply) => {
+            let decision = hub.deposit(bytes, at)?;
+            Ok(whether(is_refused_with(&decision, reply)))
         }
-        Ask::Dismiss(party) => whether(hub.dismiss(&party)?),
-        Ask::Deposit(bytes) => place_of(&hub.deposit(bytes, &at)?),
-        Ask::Refuse(bytes, reply) => whether(is_refused_with(&hub.deposit(bytes, &at)?, reply)),
-        Ask::Taken(node, item) => whether(hub.taken(node, item)?),
-        Ask::Wait(node, items) => whether(hub.mailbox(node)?.as_slice() == items),
-        Ask::Hold(node, item, bytes) => whether(holds(hub, node, item, bytes)?),
-    })
+        Ask::Taken(node, item) => hub.taken(node, item).map(whether),
+        Ask::Wait(node, items) => Ok(whether(hub.mailbox(node)?.as_slice() == items)),
+        Ask::Hold(node, item, bytes) => holds(hub, node, item, bytes).map(whether),
+        Ask::Collect(node, count) => Ok(whether(hub.collect(node)?.len() == count)),
+        Ask::Restart => hub.restart().map(|()| Answer::Yes),
+    }
 }
 
-/// Asks a hub one thing after the other, and looks at each answer.
-fn follow<H: HubRecords>(
+/// What it answers, asked again where the records failed.
+fn answered_again<H: HubRecords>(
+    hub: &mut Hub<H>,
+    ask: &Ask,
+    at: &Moment,
+) -> Result<Answer, HubFault> {
+    match answered(hub, ask, at) {
+        Err(HubFault::Store) => answered(hub, ask, at),
+        answer => answer,
+    }
+}
+
+/// Asks a hub one thing after the other, each again where the records failed, and looks at each
+/// answer.
+pub(crate) fn follow<H: HubRecords>(
     rt: &impl Abort,
     hub: &mut Hub<H>,
     asks: &[(Ask, Answer)],
-) -> Result<(), Fail> {
-    for (ask, expected) in asks {
-        let found = answered(hub, ask)?;
-        assert!(rt; found == *expected, "{ask:?}: {found:?}");
+) -> Result<(), HubFault> {
+    let at = at(rt);
+    for (place, (ask, expected)) in asks.iter().enumerate() {
+        let found = answered_again(hub, ask, &at)?;
+        assert!(rt; found == *expected, "{place}: {found:?}");
     }
     Ok(())
 }
 
+/// Asks a new hub so.
+fn follow_new(rt: &impl Abort, alloc: Global, asks: &[(Ask, Answer)]) {
+    let mut hub = new_hub(rt, alloc);
+    follow(rt, &mut hub, asks).expect(rt, "refused");
+}
+
 #[test]
-fn what_was_refused_is_refused_after_the_enrolment_too(rt: HostRuntime) -> Result<(), Fail> {
-    let mut hub = new_hub(&rt, rt.alloc())?;
+fn what_was_refused_is_refused_after_the_enrolment_too(rt: HostRuntime) {
     let asks = [
         (Ask::Refuse(ORDER, REFUSAL), Answer::Yes),
         (Ask::Enrol(BETA, 2), Answer::Yes),
@@ -156,26 +156,28 @@ fn what_was_refused_is_refused_after_the_enrolment_too(rt: HostRuntime) -> Resul
         (Ask::Deposit(SECOND), Answer::Boxed(2, 2)),
         (Ask::Hold(2, 2, SECOND), Answer::Yes),
     ];
-    follow(&rt, &mut hub, &asks)
+    follow_new(&rt, rt.alloc(), &asks);
 }
 
 #[test]
-fn an_item_waits_until_its_own_node_takes_it(rt: HostRuntime) -> Result<(), Fail> {
-    let mut hub = hub_of(&rt, rt.alloc(), &[(ALPHA, 1), (BETA, 2)])?;
+fn an_item_waits_until_its_own_node_takes_it(rt: HostRuntime) {
     let asks = [
+        (Ask::Enrol(ALPHA, 1), Answer::Yes),
+        (Ask::Enrol(BETA, 2), Answer::Yes),
         (Ask::Deposit(ORDER), Answer::Boxed(2, 1)),
         (Ask::Taken(1, 1), Answer::No),
         (Ask::Taken(2, 9), Answer::No),
         (Ask::Hold(2, 1, ORDER), Answer::Yes),
         (Ask::Hold(2, 1, ORDER), Answer::Yes),
     ];
-    follow(&rt, &mut hub, &asks)
+    follow_new(&rt, rt.alloc(), &asks);
 }
 
 #[test]
-fn a_repeated_deposit_puts_a_taken_item_back(rt: HostRuntime) -> Result<(), Fail> {
-    let mut hub = hub_of(&rt, rt.alloc(), &[(ALPHA, 1), (BETA, 2)])?;
+fn a_repeated_deposit_puts_a_taken_item_back(rt: HostRuntime) {
     let asks = [
+        (Ask::Enrol(ALPHA, 1), Answer::Yes),
+        (Ask::Enrol(BETA, 2), Answer::Yes),
         (Ask::Deposit(ORDER), Answer::Boxed(2, 1)),
         (Ask::Taken(2, 1), Answer::Yes),
         (Ask::Taken(2, 1), Answer::No),
@@ -183,28 +185,28 @@ fn a_repeated_deposit_puts_a_taken_item_back(rt: HostRuntime) -> Result<(), Fail
         (Ask::Deposit(ORDER), Answer::Boxed(2, 1)),
         (Ask::Wait(2, &[1]), Answer::Yes),
     ];
-    follow(&rt, &mut hub, &asks)
+    follow_new(&rt, rt.alloc(), &asks);
 }
 
 #[test]
-fn a_mailbox_is_collected_by_rising_item_number(rt: HostRuntime) -> Result<(), Fail> {
-    let mut hub = hub_of(&rt, rt.alloc(), &[(BETA, 2)])?;
+fn a_mailbox_is_collected_by_rising_item_number(rt: HostRuntime) {
     let asks = [
+        (Ask::Enrol(BETA, 2), Answer::Yes),
         (Ask::Deposit(ORDER), Answer::Boxed(2, 1)),
         (Ask::Deposit(SECOND), Answer::Boxed(2, 2)),
         (Ask::Taken(2, 1), Answer::Yes),
         (Ask::Deposit(ORDER), Answer::Boxed(2, 1)),
         (Ask::Wait(2, &[1, 2]), Answer::Yes),
+        (Ask::Collect(2, 2), Answer::Yes),
     ];
-    follow(&rt, &mut hub, &asks)?;
-    assert_eq!(rt; hub.collect(2)?.len(), 2);
-    Ok(())
+    follow_new(&rt, rt.alloc(), &asks);
 }
 
 #[test]
-fn a_party_is_dismissed_once(rt: HostRuntime) -> Result<(), Fail> {
-    let mut hub = hub_of(&rt, rt.alloc(), &[(BETA, 2), (BETA, 3)])?;
+fn a_party_is_dismissed_once(rt: HostRuntime) {
     let asks = [
+        (Ask::Enrol(BETA, 2), Answer::Yes),
+        (Ask::Enrol(BETA, 3), Answer::Yes),
         (Ask::Deposit(ORDER), Answer::Boxed(3, 1)),
         (Ask::Dismiss(BETA), Answer::Yes),
         (Ask::Dismiss(BETA), Answer::No),
@@ -212,59 +214,70 @@ fn a_party_is_dismissed_once(rt: HostRuntime) -> Result<(), Fail> {
         (Ask::Deposit(SECOND), Answer::No),
         (Ask::Deposit(ORDER), Answer::Boxed(3, 1)),
     ];
-    follow(&rt, &mut hub, &asks)
+    follow_new(&rt, rt.alloc(), &asks);
 }
 
 /// Whether bytes can't be deposited, since they are too short for a header.
-fn is_too_short<H: HubRecords>(hub: &mut Hub<H>, bytes: &[u8]) -> Result<bool, Fail> {
-    match hub.deposit(bytes, &moment()?) {
+fn is_too_short<H: HubRecords>(hub: &mut Hub<H>, bytes: &[u8], at: &Moment) -> bool {
+    match hub.deposit(bytes, at) {
         Err(fault) => {
-            Ok(fault == HubFault::Unreadable(HeaderFault::TooShort) && fault.number() == "B1")
+            fault == HubFault::Unreadable(HeaderFault::TooShort) && fault.number() == "B1"
         }
-        Ok(_) => Ok(false),
+        Ok(_) => false,
     }
 }
 
-#[test]
-fn what_cannot_be_read_is_no_deposit(rt: HostRuntime) -> Result<(), Fail> {
-    let mut hub = new_hub(&rt, rt.alloc())?;
-    assert!(rt; hub.is_new());
-    assert!(rt; is_too_short(&mut hub, b"ISA*")?);
-    assert!(rt; hub.is_new());
-    assert_eq!(rt; (hub.party(), hub.failures()), (HUB, 0));
-    Ok(())
+/// Whether a hub is that of HUB, was asked nothing, and never failed.
+fn is_untouched<H: HubRecords>(hub: &Hub<H>) -> bool {
+    hub.is_new() && hub.party() == HUB && hub.failures() == 0
 }
 
-/// A hub that refused ALPHA's order, took its second one for BETA, and was restarted.
-fn restarted(rt: &impl Abort, alloc: Global, at: &Moment) -> Result<Hub<RecordsOfHub>, Fail> {
-    let mut hub = new_hub(rt, alloc)?;
-    hub.deposit(ORDER, at)?;
-    hub.enrol(BETA, 2)?;
-    hub.deposit(SECOND, at)?;
-    hub.restart()?;
-    Ok(hub)
+/// Whether a new hub takes no bytes that are too short, and stays new.
+fn stays_new<H: HubRecords>(hub: &mut Hub<H>, at: &Moment) -> bool {
+    is_untouched(hub) && is_too_short(hub, b"ISA*", at) && is_untouched(hub)
 }
 
 #[test]
-fn a_hub_that_is_closed_goes_on_where_it_was(rt: HostRuntime) -> Result<(), Fail> {
-    let at = moment()?;
-    let mut hub = restarted(&rt, rt.alloc(), &at)?;
-    assert!(rt; !hub.is_new() && holds(&mut hub, 2, 2, SECOND)?);
-    let mut hub = opened(&rt, rt.alloc(), hub)?;
-    assert!(rt; is_refused_with(&hub.deposit(ORDER, &at)?, REFUSAL));
-    assert!(rt; holds(&mut hub, 2, 2, SECOND)? && hub.taken(2, 2)?);
-    Ok(())
+fn what_cannot_be_read_is_no_deposit(rt: HostRuntime) {
+    let mut hub = new_hub(&rt, rt.alloc());
+    assert!(rt; stays_new(&mut hub, &at(&rt)));
 }
 
-/// The hub of these records, opened again.
-fn opened(
-    rt: &impl Abort,
-    alloc: Global,
-    hub: Hub<RecordsOfHub>,
-) -> Result<Hub<RecordsOfHub>, Fail> {
+/// What a hub is asked before it is closed.
+const BEFORE: [(Ask, Answer); 5] = [
+    (Ask::Refuse(ORDER, REFUSAL), Answer::Yes),
+    (Ask::Enrol(BETA, 2), Answer::Yes),
+    (Ask::Deposit(SECOND), Answer::Boxed(2, 2)),
+    (Ask::Restart, Answer::Yes),
+    (Ask::Hold(2, 2, SECOND), Answer::Yes),
+];
+
+/// And once it is opened again.
+const BEHIND: [(Ask, Answer); 3] = [
+    (Ask::Refuse(ORDER, REFUSAL), Answer::Yes),
+    (Ask::Hold(2, 2, SECOND), Answer::Yes),
+    (Ask::Taken(2, 2), Answer::Yes),
+];
+
+/// The hub of the same records, opened again.
+fn opened_again<H: HubRecords>(rt: &impl Abort, alloc: Global, hub: Hub<H>) -> Hub<H> {
     let me = hub.party();
     match Hub::open(alloc, me, hub.close()) {
-        Ok(hub) => Ok(hub),
-        Err(_) => Err(Fail::new("not opened")),
+        Ok(hub) => hub,
+        Err(_) => panic!(rt; "not opened"),
     }
+}
+
+/// Stops the test unless a new hub that is closed goes on where it was.
+fn goes_on<H: HubRecords + Drop>(rt: &impl Abort, alloc: Global, hub: Hub<H>) {
+    let mut hub = hub;
+    follow(rt, &mut hub, &BEFORE).expect(rt, "refused");
+    assert!(rt; !hub.is_new());
+    let mut hub = opened_again(rt, alloc, hub);
+    follow(rt, &mut hub, &BEHIND).expect(rt, "refused");
+}
+
+#[test]
+fn a_hub_that_is_closed_goes_on_where_it_was(rt: HostRuntime) {
+    goes_on(&rt, rt.alloc(), new_hub(&rt, rt.alloc()));
 }

@@ -6,6 +6,8 @@ mod fixture;
 #[cfg(test)]
 mod hub;
 #[cfg(test)]
+mod hub_fixture;
+#[cfg(test)]
 mod hub_records;
 #[cfg(test)]
 mod kept_hub;
@@ -32,6 +34,8 @@ mod station_orders;
 #[cfg(test)]
 mod station_records;
 #[cfg(test)]
+mod station_stories;
+#[cfg(test)]
 mod station_ticks;
 #[cfg(test)]
 mod two_hubs;
@@ -50,8 +54,12 @@ mod world_fixture;
 #[cfg(test)]
 mod world_memory;
 #[cfg(test)]
+mod world_nodes;
+#[cfg(test)]
 mod world_outsiders;
 #[cfg(test)]
 mod world_refusals;
 #[cfg(test)]
 mod world_story;
+#[cfg(test)]
+mod world_tales;

@@ -2,16 +2,17 @@
 //! that isn't so: no set is accepted, and none is posted.
 
 use crate::fixture::{ALPHA, BETA, FIRST};
-use crate::world_fixture::{
-    Line, Net, Told, carries, end, half_past_nine, network_of_two_hubs, plays,
-};
+use crate::world_fixture::{Line, Told, carries, fares, half_past_nine, plays, posted_at};
 use crate::world_story::{ORDER, counts};
+use crate::world_tales::{TaleOfTwo, tell_network_of_two_hubs};
 use std::alloc::Global;
 use std::process::Abort;
 use std::test::Fail;
 use x12_acks::SetKey;
+use x12_hub::HubRecords;
 use x12_outbound::Fate;
-use x12_world::{Audit, HUB_NODE, Kind, SECOND_HUB_NODE};
+use x12_station::Records;
+use x12_world::{Audit, HUB_NODE, Kind, Refused, SECOND_HUB_NODE, World};
 
 const NOTHING: &[(u16, Kind)] = &[];
 
@@ -92,24 +93,30 @@ const PENDING: Audit = Audit {
 };
 
 /// Of the order nothing is said: it is pending, no node has posted it, and nothing was counted.
-fn says_nothing(rt: &impl Abort, world: &mut Net) -> Result<(), Fail> {
-    assert_eq!(rt; world.audit(&FIRST)?, Some(PENDING));
-    assert_eq!(rt; world.fate(&FIRST)?, Some(Fate::Pending));
+fn says_nothing<R: Records, H: HubRecords>(
+    rt: &impl Abort,
+    world: &mut World<R, H>,
+) -> Result<(), Fail> {
+    assert!(rt; world.audit(&FIRST)? == Some(PENDING) && fares(world, Fate::Pending)?);
     for node in [1, 2] {
-        assert!(rt; world.postings(node)?.is_empty());
-        assert_eq!(rt; world.counts(node)?, counts(0, 0));
+        assert!(rt; posted_at(world, node)? == 0);
+        assert!(rt; world.counts(node)? == counts(0, 0));
     }
     Ok(())
 }
 
 /// Whether each packet that goes round carries the order.
-fn carries_the_order(world: &Net) -> bool {
+fn carries_the_order<R: Records, H: HubRecords>(world: &World<R, H>) -> bool {
     let sent = [5, 7, 10, 13, 16, 20, 24];
     sent.iter().all(|event| carries(world, *event, 1, ORDER))
 }
 
 /// The order goes round, and goes on so once BETA is enrolled.
-fn goes_round(rt: &impl Abort, alloc: Global, world: &mut Net) -> Result<(), Fail> {
+pub(crate) fn goes_round<R: Records, H: HubRecords>(
+    rt: &impl Abort,
+    alloc: Global,
+    world: &mut World<R, H>,
+) -> Result<(), Fail> {
     let at = half_past_nine()?;
     plays(rt, alloc, world, at, 1, &ROUND)?;
     says_nothing(rt, world)?;
@@ -121,31 +128,32 @@ fn goes_round(rt: &impl Abort, alloc: Global, world: &mut Net) -> Result<(), Fai
 
 #[test]
 fn of_what_goes_round_nothing_is_said(rt: HostRuntime) -> Result<(), Fail> {
-    let mut world = network_of_two_hubs(&rt, rt.alloc());
-    let round = goes_round(&rt, rt.alloc(), &mut world);
-    end(&rt, world);
-    round
+    tell_network_of_two_hubs(&rt, rt.alloc(), TaleOfTwo::GoesRound)
+}
+
+/// Whether BETA has posted the second order, and nothing else.
+fn is_posted_alone<R: Records, H: HubRecords>(world: &mut World<R, H>) -> Result<bool, Refused> {
+    let second = SetKey { icn: 2, ..FIRST };
+    let postings = world.postings(2)?;
+    Ok(match postings.as_slice() {
+        [posting] => posting.key == second,
+        _ => false,
+    })
 }
 
 /// The second order is posted, and of the first one all is as it was.
-fn goes_on(rt: &impl Abort, alloc: Global, world: &mut Net) -> Result<(), Fail> {
+pub(crate) fn brings_the_next<R: Records, H: HubRecords>(
+    rt: &impl Abort,
+    alloc: Global,
+    world: &mut World<R, H>,
+) -> Result<(), Fail> {
     goes_round(rt, alloc, world)?;
     plays(rt, alloc, world, half_past_nine()?, 25, &NEXT)?;
-    let postings = world.postings(2)?;
-    assert_eq!(rt; postings.len(), 1);
-    assert!(rt;
-        postings
-            .iter()
-            .all(|posting| posting.key == SetKey { icn: 2, ..FIRST })
-    );
-    assert_eq!(rt; world.audit(&FIRST)?, Some(PENDING));
+    assert!(rt; is_posted_alone(world)? && world.audit(&FIRST)? == Some(PENDING));
     Ok(())
 }
 
 #[test]
 fn another_order_comes_to_a_party_that_is_enrolled_by_then(rt: HostRuntime) -> Result<(), Fail> {
-    let mut world = network_of_two_hubs(&rt, rt.alloc());
-    let story = goes_on(&rt, rt.alloc(), &mut world);
-    end(&rt, world);
-    story
+    tell_network_of_two_hubs(&rt, rt.alloc(), TaleOfTwo::BringsTheNext)
 }

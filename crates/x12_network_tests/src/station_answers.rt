@@ -1,11 +1,12 @@
 //! What answers mean to a station that submitted: whom it believes, what it counts, and what stays
 //! as it is.
 
-use crate::fixture::{ALPHA, BETA, FIRST, GAMMA, HUB, OTHER};
+use crate::fixture::{ALPHA, BETA, FIRST, GAMMA, HUB, OTHER, at};
 use crate::station_fixture::{
-    ORDER, arrive, asking, at, fate, new_alpha, new_alpha_of_two, not_asking, restart, submission,
-    submit,
+    arrive, failures_at_end, fate, first_order, new_alpha_of_two, not_asking, restart, submission,
+    submit_first,
 };
+use crate::station_stories::{Hearing, Sender, tell_alpha};
 use std::alloc::Global;
 use std::process::Abort;
 use x12_envelopes::Party;
@@ -74,6 +75,19 @@ fn is_new(arrival: &Arrival, counts: &Counts) -> bool {
     arrival.kind == ArrivalKind::New && arrival.reply.is_none() && arrival.counts == *counts
 }
 
+/// Whether an answer that comes is new, gets no reply, and means what it is to mean.
+fn means<R: Records>(
+    rt: &impl Abort,
+    alloc: Global,
+    alpha: &mut Station<R>,
+    step: &Step,
+) -> Result<bool, StationFault> {
+    let (from, icn, body, counts, fares) = step;
+    let bytes = not_asking(alloc, from, &ALPHA, *icn, body)?;
+    let new = is_new(&arrive(alpha, &bytes, &at(rt))?, counts);
+    Ok(new && fate(alpha, &FIRST)? == Some(*fares))
+}
+
 /// Stops the test unless each answer is new, gets no reply, and means what it is to mean.
 fn check<R: Records>(
     rt: &impl Abort,
@@ -81,14 +95,21 @@ fn check<R: Records>(
     alpha: &mut Station<R>,
     steps: &[Step],
 ) -> Result<(), StationFault> {
-    for (from, icn, body, counts, fares) in steps {
-        let bytes = not_asking(alloc, from, &ALPHA, *icn, body)?;
-        let arrival = arrive(alpha, &bytes, &at(rt))?;
-        assert!(rt; is_new(&arrival, counts), "{icn}");
-        assert!(rt; fate(alpha, &FIRST)? == Some(*fares), "{icn}");
+    for step in steps {
+        assert!(rt; means(rt, alloc, alpha, step)?, "{}", step.1);
     }
     Ok(())
 }
+
+/// BETA accepts the order, twice, and then rejects it.
+const ACCEPTED_FIRST: [Step; 3] = [
+    (BETA, 77, ACCEPTS, SETTLED, Fate::Accepted),
+    (BETA, 78, ACCEPTS, REPEATED, Fate::Accepted),
+    (BETA, 79, REJECTS, CONFLICTING, Fate::Accepted),
+];
+
+/// It rejects it once more, behind a restart.
+const REJECTED_BEHIND: [Step; 1] = [(BETA, 80, REJECTS, CONFLICTING, Fate::Accepted)];
 
 /// The first evidence settles; what says the other thing is counted and changes nothing, over a
 /// restart too, after which the counts begin again.
@@ -97,21 +118,11 @@ pub(crate) fn keeps_the_first_fate<R: Records>(
     alloc: Global,
     alpha: &mut Station<R>,
 ) -> Result<(), StationFault> {
-    submit(alpha, &asking(alloc, &ALPHA, &BETA, 1, ORDER)?)?;
-    let steps: [Step; 3] = [
-        (BETA, 77, ACCEPTS, SETTLED, Fate::Accepted),
-        (BETA, 78, ACCEPTS, REPEATED, Fate::Accepted),
-        (BETA, 79, REJECTS, CONFLICTING, Fate::Accepted),
-    ];
-    check(rt, alloc, alpha, &steps)?;
+    submit_first(alloc, alpha)?;
+    check(rt, alloc, alpha, &ACCEPTED_FIRST)?;
     restart(alpha)?;
     assert!(rt; alpha.counts() == NOTHING && fate(alpha, &FIRST)? == Some(Fate::Accepted));
-    check(
-        rt,
-        alloc,
-        alpha,
-        &[(BETA, 80, REJECTS, CONFLICTING, Fate::Accepted)],
-    )?;
+    check(rt, alloc, alpha, &REJECTED_BEHIND)?;
     assert!(rt; alpha.counts() == CONFLICTING);
     Ok(())
 }
@@ -123,7 +134,7 @@ pub(crate) fn believes_no_outsider<R: Records>(
     alloc: Global,
     alpha: &mut Station<R>,
 ) -> Result<(), StationFault> {
-    submit(alpha, &asking(alloc, &ALPHA, &BETA, 1, ORDER)?)?;
+    submit_first(alloc, alpha)?;
     let steps: [Step; 7] = [
         (GAMMA, 5, REFUSES, UNMATCHED, Fate::Pending),
         (GAMMA, 6, REFUSED, NOTHING, Fate::Pending),
@@ -142,7 +153,7 @@ pub(crate) fn believes_its_hub<R: Records>(
     alloc: Global,
     alpha: &mut Station<R>,
 ) -> Result<(), StationFault> {
-    submit(alpha, &asking(alloc, &ALPHA, &BETA, 1, ORDER)?)?;
+    submit_first(alloc, alpha)?;
     let steps: [Step; 2] = [
         (HUB, 1, REFUSES, SETTLED, Fate::Rejected),
         (BETA, 1, ACCEPTS, CONFLICTING, Fate::Rejected),
@@ -171,10 +182,23 @@ pub(crate) fn believes_both_hubs<R: Records>(
     alloc: Global,
     alpha: &mut Station<R>,
 ) -> Result<(), StationFault> {
-    submit(alpha, &asking(alloc, &ALPHA, &BETA, 1, ORDER)?)?;
+    submit_first(alloc, alpha)?;
     check(rt, alloc, alpha, &BEFORE_RESTART)?;
     restart(alpha)?;
     check(rt, alloc, alpha, &BEHIND_RESTART)
+}
+
+/// The hub's TA1 refuses the order.
+const REFUSED_BY_HUB: [Step; 1] = [(HUB, 1, REFUSES, SETTLED, Fate::Rejected)];
+
+/// Whether the bytes of the order are kept under its number, and none under the next one.
+fn has_kept_the_order<R: Records>(
+    alloc: Global,
+    alpha: &mut Station<R>,
+) -> Result<bool, StationFault> {
+    let order = first_order(alloc)?;
+    let kept = matches!(&submission(alpha, 1)?, Some(bytes) if *bytes == order);
+    Ok(kept && submission(alpha, 2)?.is_none())
 }
 
 /// What was settled keeps its fate and its bytes over a restart, and is sent no more.
@@ -183,52 +207,45 @@ pub(crate) fn keeps_what_was_settled<R: Records>(
     alloc: Global,
     alpha: &mut Station<R>,
 ) -> Result<(), StationFault> {
-    let order = asking(alloc, &ALPHA, &BETA, 1, ORDER)?;
-    submit(alpha, &order)?;
-    check(
-        rt,
-        alloc,
-        alpha,
-        &[(HUB, 1, REFUSES, SETTLED, Fate::Rejected)],
-    )?;
+    submit_first(alloc, alpha)?;
+    check(rt, alloc, alpha, &REFUSED_BY_HUB)?;
     restart(alpha)?;
     assert!(rt; fate(alpha, &FIRST)? == Some(Fate::Rejected) && alpha.tick(0)?.is_empty());
-    assert!(rt; matches!(&submission(alpha, 1)?, Some(bytes) if *bytes == order));
-    assert!(rt; submission(alpha, 2)?.is_none());
+    assert!(rt; has_kept_the_order(alloc, alpha)?);
     Ok(())
 }
 
 #[test]
 fn conflicting_evidence_is_counted_and_changes_nothing(rt: HostRuntime) {
-    let mut alpha = new_alpha(&rt, rt.alloc());
-    keeps_the_first_fate(&rt, rt.alloc(), &mut alpha).expect(&rt, "refused");
-    let _ = alpha.close();
+    tell_alpha(&rt, rt.alloc(), Sender::Hearing(Hearing::KeepsTheFirstFate));
 }
 
 #[test]
 fn an_outsider_settles_nothing(rt: HostRuntime) {
-    let mut alpha = new_alpha(&rt, rt.alloc());
-    believes_no_outsider(&rt, rt.alloc(), &mut alpha).expect(&rt, "refused");
-    let _ = alpha.close();
+    tell_alpha(
+        &rt,
+        rt.alloc(),
+        Sender::Hearing(Hearing::BelievesNoOutsider),
+    );
 }
 
 #[test]
 fn the_hub_settles_what_it_refuses(rt: HostRuntime) {
-    let mut alpha = new_alpha(&rt, rt.alloc());
-    believes_its_hub(&rt, rt.alloc(), &mut alpha).expect(&rt, "refused");
-    let _ = alpha.close();
+    tell_alpha(&rt, rt.alloc(), Sender::Hearing(Hearing::BelievesItsHub));
 }
 
 #[test]
 fn either_hub_settles_what_it_refuses(rt: HostRuntime) {
     let mut alpha = new_alpha_of_two(&rt, rt.alloc());
     believes_both_hubs(&rt, rt.alloc(), &mut alpha).expect(&rt, "refused");
-    let _ = alpha.close();
+    let _ = failures_at_end(alpha);
 }
 
 #[test]
 fn what_was_settled_is_kept(rt: HostRuntime) {
-    let mut alpha = new_alpha(&rt, rt.alloc());
-    keeps_what_was_settled(&rt, rt.alloc(), &mut alpha).expect(&rt, "refused");
-    let _ = alpha.close();
+    tell_alpha(
+        &rt,
+        rt.alloc(),
+        Sender::Hearing(Hearing::KeepsWhatWasSettled),
+    );
 }

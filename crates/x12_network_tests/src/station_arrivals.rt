@@ -1,10 +1,12 @@
 //! What a station answers to what arrives, and what it posts of it.
 
-use crate::fixture::{ALPHA, BETA};
+use crate::fixture::{ALPHA, BETA, at};
 use crate::station_fixture::{
-    ORDER, agree, arrive, asking, at, new_beta, not_asking, order_in_group, posted, restart, submit,
+    ORDER, agree, arrive, asking, failures_at_end, new_beta, not_asking, order_in_group, posted,
+    restart, submit,
 };
-use std::alloc::Global;
+use crate::station_stories::{Receiver, tell_beta};
+use std::alloc::{AllocError, Global};
 use std::process::Abort;
 use x12_envelopes::HeaderFault;
 use x12_station::{ArrivalKind, Records, Station, StationFault};
@@ -61,6 +63,34 @@ const USED: &[u8] = b"TA1*000000001*250102*0930*R*025~IEA*0*";
 /// To what can't be read, under number 3.
 const UNREADABLE: &[u8] = b"TA1*000000003*250102*0930*R*022~IEA*0*";
 
+/// Whether this is the reply that is to come: its number and its text, or none.
+fn is_reply(
+    alloc: Global,
+    got: &Option<Vec<u8>>,
+    want: &Option<(u32, &'static [u8])>,
+) -> Result<bool, AllocError> {
+    match (got, want) {
+        (Some(got), Some((number, text))) => {
+            let want = not_asking(alloc, &BETA, &ALPHA, *number, text)?;
+            Ok(*got == want)
+        }
+        (got, want) => Ok(got.is_none() && want.is_none()),
+    }
+}
+
+/// Whether an interchange that comes is what it is to be, and gets its reply.
+fn is_taken<R: Records>(
+    rt: &impl Abort,
+    alloc: Global,
+    beta: &mut Station<R>,
+    step: &Step,
+) -> Result<bool, StationFault> {
+    let (icn, body, kind, reply, _) = step;
+    let bytes = asking(alloc, &ALPHA, &BETA, *icn, body)?;
+    let arrival = arrive(beta, &bytes, &at(rt))?;
+    Ok(arrival.kind == *kind && is_reply(alloc, &arrival.reply, reply)?)
+}
+
 /// Stops the test unless each step is as it is to be.
 fn check<R: Records>(
     rt: &impl Abort,
@@ -68,17 +98,9 @@ fn check<R: Records>(
     beta: &mut Station<R>,
     steps: &[Step],
 ) -> Result<(), StationFault> {
-    for (icn, body, kind, reply, sets) in steps {
-        let bytes = asking(alloc, &ALPHA, &BETA, *icn, body)?;
-        let arrival = arrive(beta, &bytes, &at(rt))?;
-        assert!(rt; arrival.kind == *kind && posted(beta)? == *sets, "{icn}");
-        match (&arrival.reply, reply) {
-            (Some(got), Some((number, text))) => {
-                let want = not_asking(alloc, &BETA, &ALPHA, *number, text)?;
-                assert!(rt; *got == want, "{icn}");
-            }
-            (got, want) => assert!(rt; got.is_none() && want.is_none(), "{icn}"),
-        }
+    for step in steps {
+        assert!(rt; is_taken(rt, alloc, beta, step)?, "{}", step.0);
+        assert!(rt; posted(beta)? == step.4, "{}", step.0);
     }
     Ok(())
 }
@@ -202,54 +224,46 @@ pub(crate) fn runs_out_of_groups<R: Records>(
 }
 
 /// What has no header that can be read is no arrival.
-#[test]
-fn what_cannot_be_read_is_no_arrival(rt: HostRuntime) {
-    let mut beta = new_beta(&rt, rt.alloc());
-    let fault = beta.arrive(b"ISA*", &at(&rt)).expect_err(&rt, "taken");
+fn takes_no_unreadable<R: Records>(rt: &impl Abort, beta: &mut Station<R>) {
+    let fault = beta.arrive(b"ISA*", &at(rt)).expect_err(rt, "taken");
     assert_eq!(rt; fault, StationFault::Unreadable(HeaderFault::TooShort));
     assert_eq!(rt; fault.number(), "S12");
     assert!(rt; beta.is_new());
-    let _ = beta.close();
+}
+
+#[test]
+fn what_cannot_be_read_is_no_arrival(rt: HostRuntime) {
+    let mut beta = new_beta(&rt, rt.alloc());
+    takes_no_unreadable(&rt, &mut beta);
+    let _ = failures_at_end(beta);
 }
 
 #[test]
 fn a_repeat_gets_the_kept_reply(rt: HostRuntime) {
-    let mut beta = new_beta(&rt, rt.alloc());
-    answers_again(&rt, rt.alloc(), &mut beta).expect(&rt, "refused");
-    let _ = beta.close();
+    tell_beta(&rt, rt.alloc(), Receiver::AnswersAgain);
 }
 
 #[test]
 fn what_was_judged_before_an_agreement_is_not_judged_again(rt: HostRuntime) {
-    let mut beta = new_beta(&rt, rt.alloc());
-    judges_once(&rt, rt.alloc(), &mut beta).expect(&rt, "refused");
-    let _ = beta.close();
+    tell_beta(&rt, rt.alloc(), Receiver::JudgesOnce);
 }
 
 #[test]
 fn other_bytes_under_a_used_number_are_refused(rt: HostRuntime) {
-    let mut beta = new_beta(&rt, rt.alloc());
-    refuses_others(&rt, rt.alloc(), &mut beta).expect(&rt, "refused");
-    let _ = beta.close();
+    tell_beta(&rt, rt.alloc(), Receiver::RefusesOthers);
 }
 
 #[test]
 fn what_is_accepted_is_posted(rt: HostRuntime) {
-    let mut beta = new_beta(&rt, rt.alloc());
-    posts_what_it_accepts(&rt, rt.alloc(), &mut beta).expect(&rt, "refused");
-    let _ = beta.close();
+    tell_beta(&rt, rt.alloc(), Receiver::PostsWhatItAccepts);
 }
 
 #[test]
 fn nothing_is_filed_where_no_number_is_left_for_its_reply(rt: HostRuntime) {
-    let mut beta = new_beta(&rt, rt.alloc());
-    runs_out_of_replies(&rt, rt.alloc(), &mut beta).expect(&rt, "refused");
-    let _ = beta.close();
+    tell_beta(&rt, rt.alloc(), Receiver::RunsOutOfReplies);
 }
 
 #[test]
 fn a_refusal_needs_no_group_number(rt: HostRuntime) {
-    let mut beta = new_beta(&rt, rt.alloc());
-    runs_out_of_groups(&rt, rt.alloc(), &mut beta).expect(&rt, "refused");
-    let _ = beta.close();
+    tell_beta(&rt, rt.alloc(), Receiver::RunsOutOfGroups);
 }

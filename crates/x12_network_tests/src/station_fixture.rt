@@ -19,11 +19,6 @@ use x12_station::{Arrival, Body, Failing, Records, Sent, Station, StationFault};
 pub(crate) const ORDER: &[u8] =
     b"GS*PO*ALPHA*BETA*20250102*0930*1*X*004010~ST*850*0001~BEG*00*SA*PO-1**20250102~PO1*1*10*EA*5~SE*4*0001~GE*1*1~IEA*1*";
 
-/// 2 January 2025, 09:31.
-pub(crate) fn at(rt: &impl Abort) -> Moment {
-    Moment::new(*b"20250102", *b"0931").expect(rt, "no moment")
-}
-
 /// ISA of 2 January 2025, up to its time.
 fn front(alloc: Global, from: &Party, to: &Party) -> Result<Vec<u8>, AllocError> {
     let pieces: [&[u8]; 5] = [
@@ -91,6 +86,17 @@ pub(crate) fn order_in_group(alloc: Global, gcn: &[u8]) -> Result<Vec<u8>, Alloc
         b"~IEA*1*",
     ];
     pieces.concat(alloc)
+}
+
+/// ALPHA's order to BETA under interchange number 1.
+pub(crate) fn first_order(alloc: Global) -> Result<Vec<u8>, AllocError> {
+    asking(alloc, &ALPHA, &BETA, 1, ORDER)
+}
+
+/// The same under this interchange number, in a group of this number.
+pub(crate) fn order_under(alloc: Global, icn: u32, gcn: &[u8]) -> Result<Vec<u8>, AllocError> {
+    let body = order_in_group(alloc, gcn)?;
+    asking(alloc, &ALPHA, &BETA, icn, &body)
 }
 
 /// A station of this party over new records, whose hub may be connected to another one.
@@ -167,6 +173,13 @@ pub(crate) fn failing_beta(
     failing_station(rt, alloc, BETA, HUB, None, passes)
 }
 
+/// Ends a station: how often its records failed.
+pub(crate) fn failures_at_end<R: Records + Drop>(station: Station<R>) -> u64 {
+    let failures = station.failures();
+    let _ = station.close();
+    failures
+}
+
 /// Submits prepared bytes, again where the records failed.
 pub(crate) fn submit<R: Records>(
     station: &mut Station<R>,
@@ -197,6 +210,16 @@ pub(crate) fn restart<R: Records>(station: &mut Station<R>) -> Result<(), Statio
         Err(StationFault::Store) => station.restart(),
         answer => answer,
     }
+}
+
+/// Submits ALPHA's order, as interchange 1: whether it is sent as it was prepared.
+pub(crate) fn submit_first<R: Records>(
+    alloc: Global,
+    station: &mut Station<R>,
+) -> Result<bool, StationFault> {
+    let order = first_order(alloc)?;
+    let sent = submit(station, &order)?;
+    Ok(sent.icn == 1 && sent.bytes.as_slice() == order.as_slice())
 }
 
 /// The fate of a set, asked for again where the records failed.

@@ -1,10 +1,10 @@
 //! The whole journey of orders, between two stations that see each other's bytes alone.
 
-use crate::fixture::{ALPHA, BETA, FIRST};
+use crate::fixture::{ALPHA, BETA, FIRST, at};
 use crate::station_answers::{NOTHING, SETTLED};
 use crate::station_fixture::{
-    agree, arrive, at, failing_alpha, failing_beta, fate, new_alpha, new_beta, not_asking, order,
-    posted, restart,
+    agree, arrive, failing_alpha, failing_beta, failures_at_end, fate, new_alpha, new_beta,
+    not_asking, order, posted, restart,
 };
 use crate::station_orders::{FIRST_ORDER, Segments, bodies};
 use std::alloc::Global;
@@ -149,8 +149,8 @@ fn one_order_is_accepted_and_one_is_rejected(rt: HostRuntime) {
     travels(&rt, rt.alloc(), &mut alpha, &mut beta).expect(&rt, "refused");
     let holds = holds_the_accepted(&mut beta).expect(&rt, "no memory");
     assert!(rt; holds && alpha.counts() == NOTHING && beta.counts() == NOTHING);
-    let _ = alpha.close();
-    let _ = beta.close();
+    let _ = failures_at_end(alpha);
+    let _ = failures_at_end(beta);
 }
 
 /// How many calls of its records a station makes on that way, at most.
@@ -161,10 +161,7 @@ fn failures(rt: &impl Abort, alloc: Global, passes: u64) -> u64 {
     let mut alpha = failing_alpha(rt, alloc, passes);
     let mut beta = failing_beta(rt, alloc, passes);
     travels(rt, alloc, &mut alpha, &mut beta).expect(rt, "refused twice");
-    let failures = alpha.failures().saturating_add(beta.failures());
-    let _ = alpha.close();
-    let _ = beta.close();
-    failures
+    failures_at_end(alpha).saturating_add(failures_at_end(beta))
 }
 
 #[test]
@@ -215,6 +212,6 @@ fn four_hundred_orders_are_settled_by_one_reply(rt: HostRuntime) {
     let mut alpha = new_alpha(&rt, rt.alloc());
     let mut beta = new_beta(&rt, rt.alloc());
     travel(&rt, rt.alloc(), &mut alpha, &mut beta).expect(&rt, "refused");
-    let _ = alpha.close();
-    let _ = beta.close();
+    let _ = failures_at_end(alpha);
+    let _ = failures_at_end(beta);
 }

@@ -1,7 +1,8 @@
 //! An interchange of 401 transaction sets: neither submitted nor taken.
 
-use crate::fixture::{ALPHA, BETA};
-use crate::station_fixture::{arrive, asking, at, new_alpha, new_beta, not_asking, submit};
+use crate::fixture::{ALPHA, BETA, at};
+use crate::station_fixture::{arrive, asking, not_asking, submit};
+use crate::station_stories::{Receiver, Sender, Submitting, tell_alpha, tell_beta};
 use std::alloc::{AllocError, Global};
 use std::process::Abort;
 use x12_envelopes::{OutlineFault, zero_padded};
@@ -57,14 +58,14 @@ pub(crate) fn refuses_401<R: Records>(
 
 #[test]
 fn an_interchange_of_401_sets_is_not_submitted(rt: HostRuntime) {
-    let mut alpha = new_alpha(&rt, rt.alloc());
-    submits_no_401(&rt, rt.alloc(), &mut alpha).expect(&rt, "refused");
-    let _ = alpha.close();
+    tell_alpha(
+        &rt,
+        rt.alloc(),
+        Sender::Submitting(Submitting::SubmitsNo401),
+    );
 }
 
 #[test]
 fn an_interchange_of_401_sets_is_refused(rt: HostRuntime) {
-    let mut beta = new_beta(&rt, rt.alloc());
-    refuses_401(&rt, rt.alloc(), &mut beta).expect(&rt, "refused");
-    let _ = beta.close();
+    tell_beta(&rt, rt.alloc(), Receiver::Refuses401);
 }

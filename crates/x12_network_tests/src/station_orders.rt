@@ -1,9 +1,8 @@
 //! What a station writes of orders, and which orders it refuses.
 
-use crate::fixture::{ALPHA, BETA};
-use crate::station_fixture::{
-    ORDER, asking, at, new_alpha, not_asking, order, order_in_group, submit,
-};
+use crate::fixture::{ALPHA, BETA, at};
+use crate::station_fixture::{not_asking, order, order_under, submit};
+use crate::station_stories::{Ordering, Sender, tell_alpha};
 use std::alloc::{AllocError, Global};
 use std::process::Abort;
 use x12_envelopes::Party;
@@ -77,11 +76,32 @@ fn check_refused<R: Records>(
     assert!(rt; fault.number() == number, "{number}");
 }
 
+/// Stops the test unless 401 orders are refused by this number.
+fn check_too_many<R: Records>(
+    rt: &impl Abort,
+    alloc: Global,
+    station: &mut Station<R>,
+    to: Party,
+    number: &str,
+) -> Result<(), StationFault> {
+    let orders = bodies(alloc, 401, FIRST_ORDER)?;
+    check_refused(rt, station, to, &orders, number);
+    Ok(())
+}
+
 /// An order that can be written, and one of these segments behind it.
 fn behind_first(alloc: Global, segments: Segments) -> Result<Vec<Body>, AllocError> {
     let mut orders = bodies(alloc, 1, FIRST_ORDER)?;
     orders.push(body(alloc, segments)?)?;
     Ok(orders)
+}
+
+/// Whether orders are refused as they can't be written.
+fn is_unwritable<R: Records>(rt: &impl Abort, station: &mut Station<R>, orders: &[Body]) -> bool {
+    match order(station, BETA, &at(rt), orders) {
+        Ok(_) => false,
+        Err(fault) => fault.number() == "S3",
+    }
 }
 
 /// Stops the test unless the orders that can't be written are refused, each behind one that can be.
@@ -92,8 +112,7 @@ fn check_unwritable<R: Records>(
 ) -> Result<(), StationFault> {
     for (name, segments) in UNWRITABLE {
         let orders = behind_first(alloc, segments)?;
-        let fault = order(station, BETA, &at(rt), &orders).expect_err(rt, name);
-        assert!(rt; fault.number() == "S3", "{name}");
+        assert!(rt; is_unwritable(rt, station, &orders), "{name}");
     }
     Ok(())
 }
@@ -122,12 +141,24 @@ pub(crate) fn refuses_orders<R: Records>(
 ) -> Result<(), StationFault> {
     check_refused(rt, station, ALPHA, &[], "S1");
     check_refused(rt, station, SHORT, &[], "S2");
-    check_refused(rt, station, SHORT, &bodies(alloc, 401, FIRST_ORDER)?, "S3");
+    check_too_many(rt, alloc, station, SHORT, "S3")?;
     check_unwritable(rt, alloc, station)?;
-    check_refused(rt, station, BETA, &bodies(alloc, 401, FIRST_ORDER)?, "S9");
+    check_too_many(rt, alloc, station, BETA, "S9")?;
     check_refused(rt, station, BETA, &[long_order(alloc, LONGEST + 1)?], "S9");
     assert!(rt; station.is_new());
     Ok(())
+}
+
+/// Whether orders to BETA are submitted under this number, as bytes that end so.
+fn is_written<R: Records>(
+    rt: &impl Abort,
+    station: &mut Station<R>,
+    orders: &[Body],
+    icn: u32,
+    end: &[u8],
+) -> Result<bool, StationFault> {
+    let sent = order(station, BETA, &at(rt), orders)?;
+    Ok(sent.icn == icn && sent.bytes.ends_with(end))
 }
 
 /// As many orders as one interchange may hold, and as many bytes.
@@ -138,13 +169,9 @@ pub(crate) fn takes_the_greatest<R: Records>(
 ) -> Result<(), StationFault> {
     let sent = order(station, BETA, &at(rt), &[long_order(alloc, LONGEST)?])?;
     assert!(rt; sent.icn == 1 && sent.bytes.len() == 1_048_576);
-    let sent = order(station, BETA, &at(rt), &bodies(alloc, 400, FIRST_ORDER)?)?;
-    assert!(rt;
-        sent.icn == 2
-            && sent
-                .bytes
-                .ends_with(b"~SE*4*0400~GE*400*2~IEA*1*000000002~")
-    );
+    let orders = bodies(alloc, 400, FIRST_ORDER)?;
+    let end: &[u8] = b"~SE*4*0400~GE*400*2~IEA*1*000000002~";
+    assert!(rt; is_written(rt, station, &orders, 2, end)?);
     Ok(())
 }
 
@@ -162,8 +189,7 @@ pub(crate) fn writes_orders<R: Records>(
     let sent = order(station, BETA, &at(rt), &orders)?;
     let want = not_asking(alloc, &ALPHA, &BETA, 1, WRITTEN)?;
     assert!(rt; sent.icn == 1 && sent.bytes.as_slice() == want.as_slice());
-    let sent = order(station, BETA, &at(rt), &orders)?;
-    assert!(rt; sent.icn == 2 && sent.bytes.ends_with(b"~GE*2*2~IEA*1*000000002~"));
+    assert!(rt; is_written(rt, station, &orders, 2, b"~GE*2*2~IEA*1*000000002~")?);
     Ok(())
 }
 
@@ -173,13 +199,12 @@ pub(crate) fn runs_out_of_numbers<R: Records>(
     alloc: Global,
     station: &mut Station<R>,
 ) -> Result<(), StationFault> {
-    submit(station, &asking(alloc, &ALPHA, &BETA, 999_999_998, ORDER)?)?;
+    submit(station, &order_under(alloc, 999_999_998, b"1")?)?;
     let orders = bodies(alloc, 1, FIRST_ORDER)?;
-    let sent = order(station, BETA, &at(rt), &orders)?;
-    assert!(rt; sent.icn == 999_999_999 && sent.bytes.ends_with(b"~GE*1*2~IEA*1*999999999~"));
+    let end: &[u8] = b"~GE*1*2~IEA*1*999999999~";
+    assert!(rt; is_written(rt, station, &orders, 999_999_999, end)?);
     check_refused(rt, station, BETA, &orders, "S11");
-    check_refused(rt, station, BETA, &bodies(alloc, 401, FIRST_ORDER)?, "S9");
-    Ok(())
+    check_too_many(rt, alloc, station, BETA, "S9")
 }
 
 /// The group number 999999999 is the last, too.
@@ -188,43 +213,44 @@ pub(crate) fn runs_out_of_group_numbers<R: Records>(
     alloc: Global,
     station: &mut Station<R>,
 ) -> Result<(), StationFault> {
-    let last = order_in_group(alloc, b"999999999")?;
-    submit(station, &asking(alloc, &ALPHA, &BETA, 1, &last)?)?;
+    submit(station, &order_under(alloc, 1, b"999999999")?)?;
     check_refused(rt, station, BETA, &bodies(alloc, 1, FIRST_ORDER)?, "S11");
     Ok(())
 }
 
 #[test]
 fn orders_are_refused_by_the_first_row_that_holds(rt: HostRuntime) {
-    let mut station = new_alpha(&rt, rt.alloc());
-    refuses_orders(&rt, rt.alloc(), &mut station).expect(&rt, "refused");
-    let _ = station.close();
+    tell_alpha(&rt, rt.alloc(), Sender::Ordering(Ordering::RefusesOrders));
 }
 
 #[test]
 fn four_hundred_orders_and_the_greatest_size_are_taken(rt: HostRuntime) {
-    let mut station = new_alpha(&rt, rt.alloc());
-    takes_the_greatest(&rt, rt.alloc(), &mut station).expect(&rt, "refused");
-    let _ = station.close();
+    tell_alpha(
+        &rt,
+        rt.alloc(),
+        Sender::Ordering(Ordering::TakesTheGreatest),
+    );
 }
 
 #[test]
 fn orders_are_written_as_one_group(rt: HostRuntime) {
-    let mut station = new_alpha(&rt, rt.alloc());
-    writes_orders(&rt, rt.alloc(), &mut station).expect(&rt, "refused");
-    let _ = station.close();
+    tell_alpha(&rt, rt.alloc(), Sender::Ordering(Ordering::WritesOrders));
 }
 
 #[test]
 fn orders_are_refused_where_no_number_is_left(rt: HostRuntime) {
-    let mut station = new_alpha(&rt, rt.alloc());
-    runs_out_of_numbers(&rt, rt.alloc(), &mut station).expect(&rt, "refused");
-    let _ = station.close();
+    tell_alpha(
+        &rt,
+        rt.alloc(),
+        Sender::Ordering(Ordering::RunsOutOfNumbers),
+    );
 }
 
 #[test]
 fn orders_are_refused_where_no_group_number_is_left(rt: HostRuntime) {
-    let mut station = new_alpha(&rt, rt.alloc());
-    runs_out_of_group_numbers(&rt, rt.alloc(), &mut station).expect(&rt, "refused");
-    let _ = station.close();
+    tell_alpha(
+        &rt,
+        rt.alloc(),
+        Sender::Ordering(Ordering::RunsOutOfGroupNumbers),
+    );
 }

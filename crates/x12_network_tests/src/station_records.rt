@@ -1,49 +1,60 @@
 //! A station's records, and stations over records that fail once: each refused call, made
 //! again, gives the answer that it would have given.
 
-ghost use Rattle.std.specs.Prelude.{◌≡◌};
-
 use crate::fixture::{ALPHA, BETA, FIRST, HUB};
 use crate::kept_station::records_of_station;
 use crate::station_answers::NOTHING;
-use crate::station_fixture::{ORDER, are_sent, asking, failing_alpha, new_alpha, order_in_group};
+use crate::station_fixture::{failing_alpha, failures_at_end, first_order, new_alpha, order_under};
+use crate::station_ticks::sends;
 use std::alloc::Global;
 use std::process::Abort;
-use std::test::Fail;
 use x12_station::{Failing, Records, Station, StationFault, StoreFault};
 
-/// How often records failed, through the bound that a station has of them.
-fn failures_of<R: Records>(records: &R) -> u64
-    ensures { result ≡ R.failed records.now }
+/// Stops the test unless records find nothing by any key.
+fn find_nothing<R: Records>(rt: &impl Abort, records: &mut R)
+    requires { R.valid records.old }
+    ensures { R.valid records.new }
 {
-    records.failures()
-}
-
-#[test]
-fn records_that_hold_nothing_find_nothing(rt: HostRuntime) -> Result<(), Fail> {
-    let mut records = records_of_station(&rt, rt.alloc(), ALPHA, HUB, None);
-    let loaded = records.load().expect(&rt, "memory was missing");
-    assert!(rt; loaded.seq == 0 && loaded.entries.is_empty() && loaded.agreements.is_empty());
     assert!(rt; matches!(&records.find_inbound(&BETA, 1), Ok(None)));
     assert!(rt; matches!(&records.find_fate(&FIRST), Ok(None)));
     assert!(rt; matches!(&records.find_closed(1), Ok(None)));
     assert!(rt; matches!(&records.find_closed_group(&BETA, *b"PO", 1), Ok(None)));
     assert!(rt; matches!(&records.find_outbound(1), Ok(None)));
-    let postings = records.postings().expect(&rt, "memory was missing");
-    assert!(rt; postings.is_empty() && failures_of(&records) == 0);
-    Ok(())
+}
+
+/// Stops the test unless records hold nothing, and never failed.
+fn hold_nothing<R: Records>(rt: &impl Abort, records: &mut R)
+    requires { R.valid records.old }
+{
+    let loaded = records.load().expect(rt, "memory was missing");
+    assert!(rt; loaded.seq == 0 && loaded.entries.is_empty() && loaded.agreements.is_empty());
+    find_nothing(rt, records);
+    let postings = records.postings().expect(rt, "memory was missing");
+    assert!(rt; postings.is_empty() && records.failures() == 0);
+}
+
+/// Stops the test unless records fail at their second call alone.
+fn fail_once<R: Records>(rt: &impl Abort, records: &mut R)
+    requires { R.valid records.old }
+{
+    assert!(rt; matches!(&records.find_fate(&FIRST), Ok(None)));
+    assert!(rt; records.failures() == 0);
+    assert!(rt; matches!(&records.find_closed(1), Err(StoreFault::Device)));
+    assert!(rt; records.failures() == 1);
+    assert!(rt; matches!(&records.find_closed(1), Ok(None)));
+    assert!(rt; records.failures() == 1);
 }
 
 #[test]
-fn records_fail_once_and_go_on(rt: HostRuntime) -> Result<(), Fail> {
+fn records_that_hold_nothing_find_nothing(rt: HostRuntime) {
+    let mut records = records_of_station(&rt, rt.alloc(), ALPHA, HUB, None);
+    hold_nothing(&rt, &mut records);
+}
+
+#[test]
+fn records_fail_once_and_go_on(rt: HostRuntime) {
     let mut records = Failing::new(records_of_station(&rt, rt.alloc(), ALPHA, HUB, None), 1);
-    assert!(rt; matches!(&records.find_fate(&FIRST), Ok(None)));
-    assert!(rt; failures_of(&records) == 0);
-    assert!(rt; matches!(&records.find_closed(1), Err(StoreFault::Device)));
-    assert!(rt; failures_of(&records) == 1);
-    assert!(rt; matches!(&records.find_closed(1), Ok(None)));
-    assert!(rt; failures_of(&records) == 1);
-    Ok(())
+    fail_once(&rt, &mut records);
 }
 
 /// Stops the test unless a station of ALPHA was asked to do nothing yet: it knows no set, has
@@ -56,36 +67,63 @@ fn is_empty<R: Records>(rt: &impl Abort, station: &mut Station<R>) -> Result<(),
     Ok(())
 }
 
+/// The same before a restart and after it.
+fn stays_empty<R: Records>(rt: &impl Abort, station: &mut Station<R>) -> Result<(), StationFault> {
+    is_empty(rt, station)?;
+    station.restart()?;
+    is_empty(rt, station)
+}
+
 #[test]
 fn over_records_that_hold_nothing_a_station_is_empty(rt: HostRuntime) {
     let mut station = new_alpha(&rt, rt.alloc());
-    is_empty(&rt, &mut station).expect(&rt, "refused");
-    station.restart().expect(&rt, "refused");
-    is_empty(&rt, &mut station).expect(&rt, "refused");
-    let _ = station.close();
+    stays_empty(&rt, &mut station).expect(&rt, "refused");
+    let _ = failures_at_end(station);
+}
+
+#[test]
+fn over_records_that_may_fail_a_station_is_empty(rt: HostRuntime) {
     let mut station = failing_alpha(&rt, rt.alloc(), 100);
     is_empty(&rt, &mut station).expect(&rt, "refused");
-    let _ = station.close();
+    let _ = failures_at_end(station);
+}
+
+/// Whether prepared bytes aren't submitted, since the records fail.
+fn fails_to_submit<R: Records>(station: &mut Station<R>, bytes: &[u8]) -> bool {
+    matches!(&station.submit_prepared(bytes), Err(StationFault::Store))
+}
+
+/// Whether prepared bytes are submitted as they are.
+fn submits<R: Records>(station: &mut Station<R>, bytes: &[u8]) -> Result<bool, StationFault> {
+    Ok(station.submit_prepared(bytes)?.bytes.as_slice() == bytes)
 }
 
 /// The third commit fails, and leaves the station as it was: the same call then enters what it
 /// would have entered.
+fn fails_at_the_third<R: Records>(
+    rt: &impl Abort,
+    station: &mut Station<R>,
+    orders: [&[u8]; 3],
+) -> Result<(), StationFault> {
+    let [one, two, three] = orders;
+    station.submit_prepared(one)?;
+    station.submit_prepared(two)?;
+    assert!(rt; fails_to_submit(station, three) && station.failures() == 1);
+    assert!(rt; sends(station, 1, &[one, two])?);
+    assert!(rt; submits(station, three)? && station.failures() == 1);
+    Ok(())
+}
+
+/// The same of ALPHA's first orders.
 fn stays_as_it_was<R: Records>(
     rt: &impl Abort,
     alloc: Global,
     station: &mut Station<R>,
 ) -> Result<(), StationFault> {
-    let one = asking(alloc, &ALPHA, &BETA, 1, ORDER)?;
-    let two = asking(alloc, &ALPHA, &BETA, 2, &order_in_group(alloc, b"2")?)?;
-    let three = asking(alloc, &ALPHA, &BETA, 3, &order_in_group(alloc, b"3")?)?;
-    station.submit_prepared(&one)?;
-    station.submit_prepared(&two)?;
-    assert!(rt; matches!(&station.submit_prepared(&three), Err(StationFault::Store)));
-    assert!(rt; station.failures() == 1);
-    assert!(rt; are_sent(&station.tick(1)?, &[&one, &two]));
-    assert!(rt; station.submit_prepared(&three)?.bytes.as_slice() == three.as_slice());
-    assert!(rt; station.failures() == 1);
-    Ok(())
+    let one = first_order(alloc)?;
+    let two = order_under(alloc, 2, b"2")?;
+    let three = order_under(alloc, 3, b"3")?;
+    fails_at_the_third(rt, station, [&one, &two, &three])
 }
 
 /// The records pass the call that loads, and two commits.
@@ -93,5 +131,5 @@ fn stays_as_it_was<R: Records>(
 fn a_third_commit_that_fails_leaves_the_station_as_it_was(rt: HostRuntime) {
     let mut station = failing_alpha(&rt, rt.alloc(), 3);
     stays_as_it_was(&rt, rt.alloc(), &mut station).expect(&rt, "refused");
-    let _ = station.close();
+    let _ = failures_at_end(station);
 }

@@ -1,9 +1,10 @@
 //! When a station sends again what is open.
 
-use crate::fixture::{ALPHA, BETA};
-use crate::station_fixture::{ORDER, are_sent, asking, new_alpha, order_in_group, restart, submit};
+use crate::station_fixture::{are_sent, first_order, order_under, restart, submit};
+use crate::station_stories::{Sender, Sending, tell_alpha};
 use std::alloc::Global;
 use std::process::Abort;
+use std::sync::ArcSlice;
 use x12_station::{Records, Station, StationFault};
 
 /// Ticks, one after the other, and how many interchanges are sent at each. After the submission at
@@ -28,6 +29,37 @@ const TICKS: [(u64, usize); 17] = [
     (255, 1),
 ];
 
+/// Whether so many interchanges are sent, each with these bytes.
+fn are_all(sent: &[ArcSlice<u8>], count: usize, order: &[u8]) -> bool {
+    sent.len() == count && sent.iter().all(|bytes| bytes.as_slice() == order)
+}
+
+/// Stops the test unless at each tick so many interchanges are sent, each with these bytes.
+fn check<R: Records>(
+    rt: &impl Abort,
+    station: &mut Station<R>,
+    order: &[u8],
+    ticks: &[(u64, usize)],
+) -> Result<(), StationFault> {
+    for (now, count) in ticks {
+        let sent = station.tick(*now)?;
+        assert!(rt; are_all(&sent, *count, order), "{now}");
+    }
+    Ok(())
+}
+
+/// The same of an order, which is submitted first.
+fn is_sent_again<R: Records>(
+    rt: &impl Abort,
+    station: &mut Station<R>,
+    order: &[u8],
+) -> Result<(), StationFault> {
+    submit(station, order)?;
+    check(rt, station, order, &TICKS)?;
+    restart(station)?;
+    check(rt, station, order, &[(0, 1), (1, 1)])
+}
+
 /// One open interchange is sent at its ticks, as it was submitted; after a restart at the first
 /// tick, whatever it is, and then by the schedule again.
 pub(crate) fn sends_again<R: Records>(
@@ -35,29 +67,30 @@ pub(crate) fn sends_again<R: Records>(
     alloc: Global,
     station: &mut Station<R>,
 ) -> Result<(), StationFault> {
-    let order = asking(alloc, &ALPHA, &BETA, 1, ORDER)?;
-    submit(station, &order)?;
-    for (now, count) in TICKS {
-        let sent = station.tick(now)?;
-        assert!(rt;
-            sent.len() == count
-                && sent
-                    .iter()
-                    .all(|bytes| bytes.as_slice() == order.as_slice()),
-            "{now}"
-        );
-    }
-    restart(station)?;
-    for now in [0, 1] {
-        let sent = station.tick(now)?;
-        assert!(rt;
-            sent.len() == 1
-                && sent
-                    .iter()
-                    .all(|bytes| bytes.as_slice() == order.as_slice()),
-            "{now}"
-        );
-    }
+    let order = first_order(alloc)?;
+    is_sent_again(rt, station, &order)
+}
+
+/// Whether these are sent at a tick, in this order.
+pub(crate) fn sends<R: Records>(
+    station: &mut Station<R>,
+    now: u64,
+    want: &[&[u8]],
+) -> Result<bool, StationFault> {
+    Ok(are_sent(&station.tick(now)?, want))
+}
+
+/// Stops the test unless two orders, of which one is submitted a tick later, are sent at theirs.
+fn are_sent_in_order<R: Records>(
+    rt: &impl Abort,
+    station: &mut Station<R>,
+    one: &[u8],
+    two: &[u8],
+) -> Result<(), StationFault> {
+    submit(station, one)?;
+    assert!(rt; sends(station, 1, &[one])?);
+    submit(station, two)?;
+    assert!(rt; sends(station, 2, &[two])? && sends(station, 4, &[one, two])?);
     Ok(())
 }
 
@@ -67,26 +100,17 @@ pub(crate) fn sends_in_order<R: Records>(
     alloc: Global,
     station: &mut Station<R>,
 ) -> Result<(), StationFault> {
-    let one = asking(alloc, &ALPHA, &BETA, 1, ORDER)?;
-    let two = asking(alloc, &ALPHA, &BETA, 2, &order_in_group(alloc, b"2")?)?;
-    submit(station, &one)?;
-    assert!(rt; are_sent(&station.tick(1)?, &[&one]));
-    submit(station, &two)?;
-    assert!(rt; are_sent(&station.tick(2)?, &[&two]));
-    assert!(rt; are_sent(&station.tick(4)?, &[&one, &two]));
-    Ok(())
+    let one = first_order(alloc)?;
+    let two = order_under(alloc, 2, b"2")?;
+    are_sent_in_order(rt, station, &one, &two)
 }
 
 #[test]
 fn what_is_open_is_sent_again(rt: HostRuntime) {
-    let mut station = new_alpha(&rt, rt.alloc());
-    sends_again(&rt, rt.alloc(), &mut station).expect(&rt, "refused");
-    let _ = station.close();
+    tell_alpha(&rt, rt.alloc(), Sender::Sending(Sending::SendsAgain));
 }
 
 #[test]
 fn what_is_due_is_sent_by_rising_number(rt: HostRuntime) {
-    let mut station = new_alpha(&rt, rt.alloc());
-    sends_in_order(&rt, rt.alloc(), &mut station).expect(&rt, "refused");
-    let _ = station.close();
+    tell_alpha(&rt, rt.alloc(), Sender::Sending(Sending::SendsInOrder));
 }

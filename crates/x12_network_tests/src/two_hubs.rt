@@ -1,17 +1,18 @@
 //! Stories of a network of two hubs: ALPHA's station is at the first one, and BETA's at the second.
 
-use crate::fixture::{ALPHA, BETA, FIRST, HUB, OTHER};
-use crate::kept_hub::RecordsOfHub;
-use crate::world_fixture::{
-    Line, Net, Told, carries, close, end, half_past_nine, network_of_two_hubs, plays,
-};
+use crate::fixture::{ALPHA, BETA, HUB, OTHER};
+use crate::world_fixture::{Line, Told, carries, fares, half_past_nine, plays, posted_at};
+use crate::world_nodes::{close, network_of_two_hubs};
 use crate::world_story::{ORDER, REPLY, counts, is_posted_once};
+use crate::world_tales::{TaleOfTwo, tell_network_of_two_hubs};
 use std::alloc::Global;
 use std::process::Abort;
 use std::test::Fail;
-use x12_hub::Hub;
+use x12_envelopes::Party;
+use x12_hub::{Hub, HubRecords};
 use x12_outbound::{Counts, Fate};
-use x12_world::{HUB_NODE, Kind, SECOND_HUB_NODE};
+use x12_station::Records;
+use x12_world::{HUB_NODE, Kind, SECOND_HUB_NODE, World};
 
 /// The second hub's refusal of ALPHA's order, at 09:30.
 const REFUSAL: &[u8] =
@@ -105,20 +106,22 @@ pub(crate) const GOES_AGAIN: [Told; 14] = [
 ];
 
 /// Whether the order is accepted, and posted once.
-fn is_accepted(world: &mut Net) -> Result<bool, Fail> {
-    let fate = world.fate(&FIRST)?;
-    let posted = is_posted_once(world)? && world.postings(1)?.is_empty();
-    Ok(posted && fate == Some(Fate::Accepted))
+fn is_accepted<R: Records, H: HubRecords>(world: &mut World<R, H>) -> Result<bool, Fail> {
+    let once = is_posted_once(world)? && posted_at(world, 1)? == 0;
+    Ok(once && fares(world, Fate::Accepted)?)
 }
 
 /// Whether the sender has counted this, and the receiver nothing.
-fn has_counted(world: &Net, sender: Counts) -> Result<bool, Fail> {
+fn has_counted<R: Records, H: HubRecords>(
+    world: &World<R, H>,
+    sender: Counts,
+) -> Result<bool, Fail> {
     let (at_sender, at_receiver) = (world.counts(1)?, world.counts(2)?);
     Ok(at_sender == sender && at_receiver == counts(0, 0))
 }
 
 /// What the packets of the order and of its reply carry.
-fn carries_both(world: &Net) -> bool {
+fn carries_both<R: Records, H: HubRecords>(world: &World<R, H>) -> bool {
     let order = [6, 8, 12, 27, 29];
     let reply = [16, 19, 32, 34];
     order.iter().all(|event| carries(world, *event, 1, ORDER))
@@ -128,17 +131,24 @@ fn carries_both(world: &Net) -> bool {
 }
 
 /// The order is posted, and its reply is on its way.
-fn goes_there(rt: &impl Abort, alloc: Global, world: &mut Net) -> Result<(), Fail> {
+fn goes_there<R: Records, H: HubRecords>(
+    rt: &impl Abort,
+    alloc: Global,
+    world: &mut World<R, H>,
+) -> Result<(), Fail> {
     let at = half_past_nine()?;
     plays(rt, alloc, world, at, 1, &ENROLLED)?;
     plays(rt, alloc, world, at, 6, &GOES_OUT)?;
-    assert!(rt; is_posted_once(world)?);
-    assert_eq!(rt; world.fate(&FIRST)?, Some(Fate::Pending));
+    assert!(rt; is_posted_once(world)? && fares(world, Fate::Pending)?);
     Ok(())
 }
 
 /// The reply comes, and nothing else comes of all that goes once more.
-fn goes_over_both(rt: &impl Abort, alloc: Global, world: &mut Net) -> Result<(), Fail> {
+fn goes_over_both<R: Records, H: HubRecords>(
+    rt: &impl Abort,
+    alloc: Global,
+    world: &mut World<R, H>,
+) -> Result<(), Fail> {
     let at = half_past_nine()?;
     goes_there(rt, alloc, world)?;
     plays(rt, alloc, world, at, 15, &COMES_BACK)?;
@@ -150,7 +160,7 @@ fn goes_over_both(rt: &impl Abort, alloc: Global, world: &mut Net) -> Result<(),
 }
 
 /// Whether what was sent last waits at this hub still: one item each, in two mailboxes.
-fn waits(hub: &Hub<RecordsOfHub>, boxes: [(u16, u32); 2]) -> Result<bool, Fail> {
+fn waits<H: HubRecords>(hub: &Hub<H>, boxes: [(u16, u32); 2]) -> Result<bool, Fail> {
     for (node, item) in boxes {
         if hub.mailbox(node)?.as_slice() != [item].as_slice() {
             return Ok(false);
@@ -160,32 +170,52 @@ fn waits(hub: &Hub<RecordsOfHub>, boxes: [(u16, u32); 2]) -> Result<bool, Fail> 
 }
 
 /// Whether these are the hubs of the story, and what was sent last waits at each.
-fn wait_both(hub: &Hub<RecordsOfHub>, second: &Hub<RecordsOfHub>) -> Result<bool, Fail> {
+fn wait_both<H: HubRecords>(hub: &Hub<H>, second: &Hub<H>) -> Result<bool, Fail> {
     let first_waits = waits(hub, [(SECOND_HUB_NODE, 1), (1, 2)])?;
     let second_waits = waits(second, [(2, 1), (HUB_NODE, 2)])?;
     Ok(hub.party() == HUB && second.party() == OTHER && first_waits && second_waits)
 }
 
-#[test]
-fn an_order_goes_over_both_hubs_and_is_posted_once(rt: HostRuntime) -> Result<(), Fail> {
-    let mut world = network_of_two_hubs(&rt, rt.alloc());
-    let story = goes_over_both(&rt, rt.alloc(), &mut world);
+/// Tells a network the story, and ends it: whether what was sent last waits at both of its hubs.
+fn waits_at_both<R: Records + Drop, H: HubRecords + Drop>(
+    rt: &impl Abort,
+    alloc: Global,
+    world: World<R, H>,
+) -> Result<bool, Fail> {
+    let mut world = world;
+    let story = goes_over_both(rt, alloc, &mut world);
     let (hub, second, stations) = world.end();
-    let _ = close(&rt, stations);
+    let _ = close(rt, stations);
     story?;
-    let second = second.expect(&rt, "no second hub");
-    assert!(rt; wait_both(&hub, &second)?);
-    Ok(())
+    wait_both(&hub, &second.expect(rt, "no second hub"))
 }
 
 #[test]
-fn a_network_that_ends_gives_both_hubs_back(rt: HostRuntime) -> Result<(), Fail> {
-    let (hub, second, stations) = network_of_two_hubs(&rt, rt.alloc()).end();
-    assert_eq!(rt; close(&rt, stations), 2);
-    let second = second.expect(&rt, "no second hub");
-    assert!(rt; hub.party() == HUB && second.party() == OTHER);
-    assert!(rt; hub.is_new() && second.is_new());
+fn an_order_goes_over_both_hubs_and_is_posted_once(rt: HostRuntime) -> Result<(), Fail> {
+    let world = network_of_two_hubs(&rt, rt.alloc());
+    assert!(rt; waits_at_both(&rt, rt.alloc(), world)?);
     Ok(())
+}
+
+/// Whether a hub is that of this party, and new.
+fn is_new_of<H: HubRecords>(hub: &Hub<H>, party: Party) -> bool {
+    hub.party() == party && hub.is_new()
+}
+
+/// Ends a network: whether two hubs and two stations come back as they were.
+fn gives_both_back<R: Records + Drop, H: HubRecords + Drop>(
+    rt: &impl Abort,
+    world: World<R, H>,
+) -> bool {
+    let (hub, second, stations) = world.end();
+    let count = close(rt, stations);
+    let second = second.expect(rt, "no second hub");
+    count == 2 && is_new_of(&hub, HUB) && is_new_of(&second, OTHER)
+}
+
+#[test]
+fn a_network_that_ends_gives_both_hubs_back(rt: HostRuntime) {
+    assert!(rt; gives_both_back(&rt, network_of_two_hubs(&rt, rt.alloc())));
 }
 
 /// The second hub refuses the order, since BETA isn't enrolled there, and again after the enrolment; its
@@ -209,22 +239,22 @@ const TOO_EARLY: [Told; 16] = [
     (Line::Deliver(15, 1), ANSWER_CAME),
 ];
 
-fn is_refused_twice(rt: &impl Abort, alloc: Global, world: &mut Net) -> Result<(), Fail> {
+pub(crate) fn is_refused_across<R: Records, H: HubRecords>(
+    rt: &impl Abort,
+    alloc: Global,
+    world: &mut World<R, H>,
+) -> Result<(), Fail> {
     let at = half_past_nine()?;
     plays(rt, alloc, world, at, 1, &TOO_EARLY)?;
     assert!(rt; carries(world, 7, 2, REFUSAL) && carries(world, 12, 2, REFUSAL));
     assert!(rt; carries(world, 15, 1, REFUSAL));
-    assert_eq!(rt; world.fate(&FIRST)?, Some(Fate::Rejected));
-    assert!(rt; world.postings(2)?.is_empty());
+    assert!(rt; fares(world, Fate::Rejected)? && posted_at(world, 2)? == 0);
     Ok(())
 }
 
 #[test]
 fn the_refusal_of_the_second_hub_goes_back_and_stands(rt: HostRuntime) -> Result<(), Fail> {
-    let mut world = network_of_two_hubs(&rt, rt.alloc());
-    let refused = is_refused_twice(&rt, rt.alloc(), &mut world);
-    end(&rt, world);
-    refused
+    tell_network_of_two_hubs(&rt, rt.alloc(), TaleOfTwo::IsRefusedAcross)
 }
 
 /// ALPHA isn't enrolled at its hub when the refusal comes there: it is refused, nobody hears of that, and
@@ -242,17 +272,17 @@ const UNHEARD: [Told; 10] = [
     (Line::Collect(SECOND_HUB_NODE), ACROSS),
 ];
 
-fn stays_pending(rt: &impl Abort, alloc: Global, world: &mut Net) -> Result<(), Fail> {
+pub(crate) fn stays_pending<R: Records, H: HubRecords>(
+    rt: &impl Abort,
+    alloc: Global,
+    world: &mut World<R, H>,
+) -> Result<(), Fail> {
     plays(rt, alloc, world, half_past_nine()?, 1, &UNHEARD)?;
-    assert_eq!(rt; world.fate(&FIRST)?, Some(Fate::Pending));
-    assert!(rt; world.postings(2)?.is_empty());
+    assert!(rt; fares(world, Fate::Pending)? && posted_at(world, 2)? == 0);
     Ok(())
 }
 
 #[test]
 fn nobody_hears_that_a_refusal_was_refused(rt: HostRuntime) -> Result<(), Fail> {
-    let mut world = network_of_two_hubs(&rt, rt.alloc());
-    let pending = stays_pending(&rt, rt.alloc(), &mut world);
-    end(&rt, world);
-    pending
+    tell_network_of_two_hubs(&rt, rt.alloc(), TaleOfTwo::StaysPending)
 }

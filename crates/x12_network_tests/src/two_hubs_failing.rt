@@ -2,16 +2,17 @@
 //! would have done.
 
 use crate::fixture::{ALPHA, BETA, HUB, OTHER};
-use crate::hub_records::{failing, failing_other};
+use crate::hub_fixture::{failing, failing_other};
 use crate::kept_station::RecordsOfStation;
 use crate::station_fixture::failing_station;
 use crate::two_hubs::{COMES_BACK, ENROLLED, GOES_AGAIN, GOES_OUT};
 use crate::world_failing::{CALLS, FailingNet, is_audited_well, plays};
-use crate::world_fixture::close;
+use crate::world_nodes::{close, founded};
 use std::alloc::Global;
 use std::process::Abort;
 use std::test::Fail;
-use x12_station::{Failing, Station};
+use x12_hub::HubRecords;
+use x12_station::{Failing, Records, Station};
 use x12_world::World;
 
 /// How many calls the records of each hub pass before they fail once; those of the stations never do.
@@ -33,17 +34,19 @@ fn stations(rt: &impl Abort, alloc: Global) -> Vec<Station<Failing<RecordsOfStat
 }
 
 /// The network of both, and of two hubs.
-fn network(rt: &impl Abort, alloc: Global, passes: Passes) -> Result<FailingNet, Fail> {
-    let hub = failing(rt, alloc, passes.first)?;
-    let second = failing_other(rt, alloc, passes.second)?;
-    match World::new(alloc, hub, Some(second), stations(rt, alloc)) {
-        Ok(world) => Ok(world),
-        Err(_) => panic!(rt; "no network"),
-    }
+fn network(rt: &impl Abort, alloc: Global, passes: Passes) -> FailingNet {
+    let hub = failing(rt, alloc, passes.first);
+    let second = failing_other(rt, alloc, passes.second);
+    let made = World::new(alloc, hub, Some(second), stations(rt, alloc));
+    founded(rt, made)
 }
 
 /// The story of an order over both hubs, and what an audit says of it.
-fn goes_on(rt: &impl Abort, alloc: Global, world: &mut FailingNet) -> Result<(), Fail> {
+fn goes_on<R: Records, H: HubRecords>(
+    rt: &impl Abort,
+    alloc: Global,
+    world: &mut World<R, H>,
+) -> Result<(), Fail> {
     plays(rt, alloc, world, &ENROLLED)?;
     plays(rt, alloc, world, &GOES_OUT)?;
     plays(rt, alloc, world, &COMES_BACK)?;
@@ -51,15 +54,24 @@ fn goes_on(rt: &impl Abort, alloc: Global, world: &mut FailingNet) -> Result<(),
     is_audited_well(rt, world)
 }
 
-/// Plays it, and counts the failures of each hub's device.
-fn failures(rt: &impl Abort, alloc: Global, passes: Passes) -> Result<(u64, u64), Fail> {
-    let mut world = network(rt, alloc, passes)?;
+/// Plays it to its end, and counts the failures of each hub's device.
+fn failures_in<R: Records + Drop, H: HubRecords + Drop>(
+    rt: &impl Abort,
+    alloc: Global,
+    world: World<R, H>,
+) -> Result<(u64, u64), Fail> {
+    let mut world = world;
     let story = goes_on(rt, alloc, &mut world);
     let (hub, second, stations) = world.end();
     let _ = close(rt, stations);
     story?;
     let second = second.expect(rt, "no second hub");
     Ok((hub.failures(), second.failures()))
+}
+
+/// The same where the devices pass so many calls.
+fn failures(rt: &impl Abort, alloc: Global, passes: Passes) -> Result<(u64, u64), Fail> {
+    failures_in(rt, alloc, network(rt, alloc, passes))
 }
 
 #[test]

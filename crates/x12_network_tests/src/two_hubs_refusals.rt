@@ -3,13 +3,14 @@
 
 use crate::fixture::{ALPHA, BETA, GAMMA};
 use crate::hub::ORDER;
-use crate::world_fixture::{
-    Line, Net, Told, carries, end, half_past_nine, network, network_of_two_hubs, plays, refuses,
-};
+use crate::world_fixture::{Line, Told, carries, half_past_nine, plays, refuses_all};
+use crate::world_tales::{Tale, TaleOfTwo, tell_network, tell_network_of_two_hubs};
 use std::alloc::Global;
 use std::process::Abort;
 use std::test::Fail;
-use x12_world::{HUB_NODE, Kind, SECOND_HUB_NODE};
+use x12_hub::HubRecords;
+use x12_station::Records;
+use x12_world::{HUB_NODE, Kind, SECOND_HUB_NODE, World};
 
 /// An interchange in the second hub's name.
 const OF_THE_SECOND: &[u8] =
@@ -66,15 +67,14 @@ const ON: [Told; 6] = [
     (Line::Restart(SECOND_HUB_NODE), NOTHING),
 ];
 
-fn goes_on(rt: &impl Abort, alloc: Global, world: &mut Net) -> Result<(), Fail> {
+pub(crate) fn serves_no_hub_itself<R: Records, H: HubRecords>(
+    rt: &impl Abort,
+    alloc: Global,
+    world: &mut World<R, H>,
+) -> Result<(), Fail> {
     let at = half_past_nine()?;
     plays(rt, alloc, world, at, 1, &SUBMITTED)?;
-    for (line, number) in REFUSED {
-        assert!(rt;
-            refuses(alloc, world, at, line, number)?,
-            "{line:?} isn't {number}"
-        );
-    }
+    refuses_all(rt, alloc, world, at, &REFUSED)?;
     plays(rt, alloc, world, at, 5, &ON)?;
     assert!(rt; carries(world, 6, 1, ORDER) && carries(world, 8, 1, ORDER));
     Ok(())
@@ -82,37 +82,33 @@ fn goes_on(rt: &impl Abort, alloc: Global, world: &mut Net) -> Result<(), Fail> 
 
 #[test]
 fn no_hub_serves_itself(rt: HostRuntime) -> Result<(), Fail> {
-    let mut world = network_of_two_hubs(&rt, rt.alloc());
-    let on = goes_on(&rt, rt.alloc(), &mut world);
-    end(&rt, world);
-    on
+    tell_network_of_two_hubs(&rt, rt.alloc(), TaleOfTwo::ServesNoHubItself)
 }
 
 /// What is refused where there is one hub.
-const ALONE: [Line; 8] = [
-    Line::EnrolAt(SECOND_HUB_NODE, BETA, 2),
-    Line::Enrol(BETA, SECOND_HUB_NODE),
-    Line::CollectAt(SECOND_HUB_NODE, 2),
-    Line::Collect(SECOND_HUB_NODE),
-    Line::Dismiss(SECOND_HUB_NODE, ALPHA),
-    Line::Restart(SECOND_HUB_NODE),
-    Line::Outside(SECOND_HUB_NODE, ORDER),
-    Line::Tick(SECOND_HUB_NODE, 1),
+const ALONE: [(Line, &str); 8] = [
+    (Line::EnrolAt(SECOND_HUB_NODE, BETA, 2), "V4"),
+    (Line::Enrol(BETA, SECOND_HUB_NODE), "V4"),
+    (Line::CollectAt(SECOND_HUB_NODE, 2), "V4"),
+    (Line::Collect(SECOND_HUB_NODE), "V4"),
+    (Line::Dismiss(SECOND_HUB_NODE, ALPHA), "V4"),
+    (Line::Restart(SECOND_HUB_NODE), "V4"),
+    (Line::Outside(SECOND_HUB_NODE, ORDER), "V4"),
+    (Line::Tick(SECOND_HUB_NODE, 1), "V4"),
 ];
 
-fn knows_no_second(rt: &impl Abort, alloc: Global, world: &mut Net) -> Result<(), Fail> {
+pub(crate) fn knows_no_second<R: Records, H: HubRecords>(
+    rt: &impl Abort,
+    alloc: Global,
+    world: &mut World<R, H>,
+) -> Result<(), Fail> {
     let at = half_past_nine()?;
-    for line in ALONE {
-        assert!(rt; refuses(alloc, world, at, line, "V4")?, "{line:?}");
-    }
+    refuses_all(rt, alloc, world, at, &ALONE)?;
     let none: [Told; 1] = [(Line::Enrol(ALPHA, 1), NOTHING)];
     plays(rt, alloc, world, at, 1, &none)
 }
 
 #[test]
 fn where_there_is_one_hub_17_is_no_node(rt: HostRuntime) -> Result<(), Fail> {
-    let mut world = network(&rt, rt.alloc());
-    let refused = knows_no_second(&rt, rt.alloc(), &mut world);
-    end(&rt, world);
-    refused
+    tell_network(&rt, rt.alloc(), Tale::KnowsNoSecond)
 }

@@ -1,14 +1,17 @@
 //! What a network tells of all that was submitted: its keys, and an audit of each.
 
 use crate::fixture::{ALPHA, BETA, FIRST, GAMMA};
-use crate::world_fixture::{Line, Net, Told, end, half_past_nine, network, plays};
+use crate::world_fixture::{Line, Told, half_past_nine, plays};
+use crate::world_tales::{Tale, tell_network};
 use std::alloc::Global;
 use std::process::Abort;
 use std::test::Fail;
 use x12_acks::SetKey;
 use x12_envelopes::Party;
+use x12_hub::HubRecords;
 use x12_outbound::Fate;
-use x12_world::{Audit, HUB_NODE, Kind};
+use x12_station::Records;
+use x12_world::{Audit, HUB_NODE, Kind, World};
 
 /// ALPHA's interchange 1 to BETA: a group of two sets, of which the second has a wrong count, and a group of one.
 const TWO_GROUPS: &[u8] =
@@ -106,7 +109,11 @@ const UNKNOWN: [(Party, u32, u16, u16); 6] = [
 ];
 
 /// The keys are those of these rows, in their order, and each audit is its row's.
-fn tells(rt: &impl Abort, world: &mut Net, rows: &[Row]) -> Result<(), Fail> {
+fn tells<R: Records, H: HubRecords>(
+    rt: &impl Abort,
+    world: &mut World<R, H>,
+    rows: &[Row],
+) -> Result<(), Fail> {
     let keys = world.keys()?;
     assert_eq!(rt; keys.len(), rows.len());
     for (found, (key, receiver, fate, posted)) in keys.iter().zip(rows) {
@@ -123,7 +130,10 @@ fn tells(rt: &impl Abort, world: &mut Net, rows: &[Row]) -> Result<(), Fail> {
     Ok(())
 }
 
-fn knows_no_other(rt: &impl Abort, world: &mut Net) -> Result<(), Fail> {
+fn knows_no_other<R: Records, H: HubRecords>(
+    rt: &impl Abort,
+    world: &mut World<R, H>,
+) -> Result<(), Fail> {
     for (sender, icn, group, set) in UNKNOWN {
         let key = SetKey {
             sender,
@@ -136,7 +146,11 @@ fn knows_no_other(rt: &impl Abort, world: &mut Net) -> Result<(), Fail> {
     Ok(())
 }
 
-fn is_audited(rt: &impl Abort, alloc: Global, world: &mut Net) -> Result<(), Fail> {
+pub(crate) fn is_audited<R: Records, H: HubRecords>(
+    rt: &impl Abort,
+    alloc: Global,
+    world: &mut World<R, H>,
+) -> Result<(), Fail> {
     let at = half_past_nine()?;
     assert!(rt; world.keys()?.is_empty());
     plays(rt, alloc, world, at, 1, &SUBMITTED)?;
@@ -148,8 +162,5 @@ fn is_audited(rt: &impl Abort, alloc: Global, world: &mut Net) -> Result<(), Fai
 
 #[test]
 fn an_audit_tells_what_both_sides_hold(rt: HostRuntime) -> Result<(), Fail> {
-    let mut world = network(&rt, rt.alloc());
-    let audited = is_audited(&rt, rt.alloc(), &mut world);
-    end(&rt, world);
-    audited
+    tell_network(&rt, rt.alloc(), Tale::IsAudited)
 }

@@ -1,18 +1,19 @@
 //! A network in which a device fails once: each event that is refused for it, made again, does what it would have done.
 
 use crate::fixture::FIRST;
-use crate::hub_records::failing;
+use crate::hub_fixture::failing;
 use crate::kept_hub::RecordsOfHub;
 use crate::kept_station::RecordsOfStation;
 use crate::station_fixture::{failing_alpha, failing_beta};
-use crate::world_fixture::{Told, are_told, close, event, half_past_nine};
+use crate::world_fixture::{Told, are_told, event, half_past_nine};
+use crate::world_nodes::{close, founded};
 use crate::world_story::{BACK_TO_ALPHA, UP_TO_BETA};
 use std::alloc::Global;
 use std::process::Abort;
 use std::test::Fail;
-use x12_hub::{Failing as FailingHub, HubFault};
+use x12_hub::{Failing as FailingHub, Hub, HubFault, HubRecords};
 use x12_outbound::Fate;
-use x12_station::{Failing, Station, StationFault};
+use x12_station::{Failing, Records, Station, StationFault};
 use x12_world::{Audit, Event, NodeFault, Outcome, Refused, World};
 
 /// A network over records each of which may fail once.
@@ -41,12 +42,10 @@ fn stations(rt: &impl Abort, alloc: Global, beta: u64) -> Vec<Station<Failing<Re
 }
 
 /// The network of both, and a hub.
-fn network(rt: &impl Abort, alloc: Global, passes: Passes) -> Result<FailingNet, Fail> {
-    let hub = failing(rt, alloc, passes.hub)?;
-    match World::new(alloc, hub, None, stations(rt, alloc, passes.beta)) {
-        Ok(world) => Ok(world),
-        Err(_) => panic!(rt; "no network"),
-    }
+fn network(rt: &impl Abort, alloc: Global, passes: Passes) -> FailingNet {
+    let hub = failing(rt, alloc, passes.hub);
+    let made = World::new(alloc, hub, None, stations(rt, alloc, passes.beta));
+    founded(rt, made)
 }
 
 /// Whether a device failed.
@@ -59,7 +58,10 @@ fn is_of_device(refused: &Refused) -> bool {
 }
 
 /// Lets an event happen, again where a device failed.
-fn apply(world: &mut FailingNet, event: &Event) -> Result<Outcome, Refused> {
+fn apply<R: Records, H: HubRecords>(
+    world: &mut World<R, H>,
+    event: &Event,
+) -> Result<Outcome, Refused> {
     match world.apply(event) {
         Err(refused) if is_of_device(&refused) => world.apply(event),
         answer => answer,
@@ -67,7 +69,7 @@ fn apply(world: &mut FailingNet, event: &Event) -> Result<Outcome, Refused> {
 }
 
 /// The audit of ALPHA's order, asked again where a device failed.
-fn audit(world: &mut FailingNet) -> Result<Option<Audit>, Refused> {
+fn audit<R: Records, H: HubRecords>(world: &mut World<R, H>) -> Result<Option<Audit>, Refused> {
     match world.audit(&FIRST) {
         Err(refused) if is_of_device(&refused) => world.audit(&FIRST),
         answer => answer,
@@ -75,10 +77,10 @@ fn audit(world: &mut FailingNet) -> Result<Option<Audit>, Refused> {
 }
 
 /// Sees that each event of a story sends what is told of it.
-pub(crate) fn plays(
+pub(crate) fn plays<R: Records, H: HubRecords>(
     rt: &impl Abort,
     alloc: Global,
-    world: &mut FailingNet,
+    world: &mut World<R, H>,
     story: &[Told],
 ) -> Result<(), Fail> {
     let at = half_past_nine()?;
@@ -94,7 +96,10 @@ pub(crate) fn plays(
 }
 
 /// An audit says of ALPHA's order that it was accepted, and posted once.
-pub(crate) fn is_audited_well(rt: &impl Abort, world: &mut FailingNet) -> Result<(), Fail> {
+pub(crate) fn is_audited_well<R: Records, H: HubRecords>(
+    rt: &impl Abort,
+    world: &mut World<R, H>,
+) -> Result<(), Fail> {
     match audit(world)? {
         Some(audit) => {
             assert!(rt; audit.fate == Fate::Accepted && audit.intact);
@@ -106,24 +111,43 @@ pub(crate) fn is_audited_well(rt: &impl Abort, world: &mut FailingNet) -> Result
 }
 
 /// The long story of an order, and what an audit says of it.
-fn goes_on(rt: &impl Abort, alloc: Global, world: &mut FailingNet) -> Result<(), Fail> {
+fn goes_on<R: Records, H: HubRecords>(
+    rt: &impl Abort,
+    alloc: Global,
+    world: &mut World<R, H>,
+) -> Result<(), Fail> {
     plays(rt, alloc, world, &UP_TO_BETA)?;
     plays(rt, alloc, world, &BACK_TO_ALPHA)?;
     is_audited_well(rt, world)
 }
 
-/// Plays it, and counts the failures of all devices.
-fn failures(rt: &impl Abort, alloc: Global, passes: Passes) -> Result<u64, Fail> {
-    let mut world = network(rt, alloc, passes)?;
-    let story = goes_on(rt, alloc, &mut world);
-    let (hub, _, stations) = world.end();
+/// How often the devices of a hub and of its stations failed.
+fn failures_of<R: Records, H: HubRecords>(hub: &Hub<H>, stations: &[Station<R>]) -> u64 {
     let mut failures = hub.failures();
-    for station in &stations {
+    for station in stations {
         failures = failures.saturating_add(station.failures());
     }
+    failures
+}
+
+/// Plays it to its end, and counts the failures of all devices.
+fn failures_in<R: Records + Drop, H: HubRecords + Drop>(
+    rt: &impl Abort,
+    alloc: Global,
+    world: World<R, H>,
+) -> Result<u64, Fail> {
+    let mut world = world;
+    let story = goes_on(rt, alloc, &mut world);
+    let (hub, _, stations) = world.end();
+    let failures = failures_of(&hub, &stations);
     let _ = close(rt, stations);
     story?;
     Ok(failures)
+}
+
+/// The same where the devices pass so many calls.
+fn failures(rt: &impl Abort, alloc: Global, passes: Passes) -> Result<u64, Fail> {
+    failures_in(rt, alloc, network(rt, alloc, passes))
 }
 
 /// Whose records fail.

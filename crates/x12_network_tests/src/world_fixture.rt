@@ -1,27 +1,22 @@
-//! What the tests of a running network share: its nodes, its events in short, and what is asked of it.
+//! What the tests of a running network share: its events in short, and what is asked of it.
 
-ghost use Rattle.std.specs.Prelude.{IsTrue};
-ghost use Rattle.x12_envelopes.specs.Party.{is_plain_party};
-
-use crate::fixture::{ALPHA, BETA, HUB, OTHER};
-use crate::kept_hub::{RecordsOfHub, records_of_hub};
-use crate::kept_station::{RecordsOfStation, records_of_station};
+use crate::fixture::FIRST;
 use std::alloc::{AllocError, Global};
 use std::process::Abort;
 use std::test::Fail;
 use x12_envelopes::{Moment, Party};
-use x12_hub::Hub;
+use x12_hub::HubRecords;
 use x12_judge::Agreement;
+use x12_outbound::Fate;
 use x12_samples::orders_from;
-use x12_station::{Body, Records, Station};
-use x12_world::{Action, Event, HUB_NODE, Kind, Load, PacketName, ToldPacket, World};
-
-/// A network over the records of these rows.
-pub(crate) type Net = World<RecordsOfStation, RecordsOfHub>;
+use x12_station::{Body, Records};
+use x12_world::{
+    Action, Event, HUB_NODE, Kind, Load, Outcome, PacketName, Refused, ToldPacket, World,
+};
 
 /// An event in short: of the first hub, where none is named. What is submitted is one order, with the
 /// number PO-1; what is agreed is PO850.
-#[derive(Clone, Copy, Debug)]
+#[derive(Clone, Copy)]
 pub(crate) enum Line {
     Enrol(Party, u16),
     EnrolAt(u16, Party, u16),
@@ -68,37 +63,55 @@ fn collect(hub: u16, node: u16) -> Event {
     act(hub, Action::Collect { node })
 }
 
+/// A node agrees to take a partner's orders.
+fn agree(alloc: Global, node: u16, partner: Party) -> Result<Event, AllocError> {
+    let agreement = orders_from(alloc, partner)?;
+    Ok(act(node, Action::Agree { agreement }))
+}
+
+/// A node takes nothing of a partner any more.
+fn withdraw(alloc: Global, node: u16, partner: Party) -> Event {
+    let pairs = Vec::new(alloc);
+    let agreement = Agreement { partner, pairs };
+    act(node, Action::Agree { agreement })
+}
+
+/// A node submits the order.
+fn submit(alloc: Global, node: u16, to: Party, at: Moment) -> Result<Event, AllocError> {
+    let orders = orders(alloc)?;
+    Ok(act(node, Action::SubmitOrders { to, at, orders }))
+}
+
+/// A node submits what was prepared.
+fn prepared(alloc: Global, node: u16, text: &[u8]) -> Result<Event, AllocError> {
+    let bytes = Vec::from_slice(alloc, text)?;
+    Ok(act(node, Action::SubmitPrepared { bytes }))
+}
+
+/// Bytes come to a node from outside.
+fn outside(alloc: Global, node: u16, text: &[u8], at: Moment) -> Result<Event, AllocError> {
+    let bytes = Vec::from_slice(alloc, text)?;
+    Ok(Event::Outside { node, bytes, at })
+}
+
+/// The packet of this name comes.
+fn deliver(event: u64, place: u32, at: Moment) -> Event {
+    let packet = PacketName { event, place };
+    Event::Deliver { packet, at }
+}
+
 /// The event of a line, at a moment.
 pub(crate) fn event(alloc: Global, line: Line, at: Moment) -> Result<Event, AllocError> {
     match line {
         Line::Enrol(party, node) => Ok(enrol(HUB_NODE, party, node)),
         Line::EnrolAt(hub, party, node) => Ok(enrol(hub, party, node)),
         Line::Dismiss(hub, party) => Ok(act(hub, Action::Dismiss { party })),
-        Line::Agree(node, partner) => {
-            let agreement = orders_from(alloc, partner)?;
-            Ok(act(node, Action::Agree { agreement }))
-        }
-        Line::Withdraw(node, partner) => {
-            let pairs = Vec::new(alloc);
-            let agreement = Agreement { partner, pairs };
-            Ok(act(node, Action::Agree { agreement }))
-        }
-        Line::Orders(node, to) => {
-            let orders = orders(alloc)?;
-            Ok(act(node, Action::SubmitOrders { to, at, orders }))
-        }
-        Line::Prepared(node, text) => {
-            let bytes = Vec::from_slice(alloc, text)?;
-            Ok(act(node, Action::SubmitPrepared { bytes }))
-        }
-        Line::Outside(node, text) => {
-            let bytes = Vec::from_slice(alloc, text)?;
-            Ok(Event::Outside { node, bytes, at })
-        }
-        Line::Deliver(event, place) => {
-            let packet = PacketName { event, place };
-            Ok(Event::Deliver { packet, at })
-        }
+        Line::Agree(node, partner) => agree(alloc, node, partner),
+        Line::Withdraw(node, partner) => Ok(withdraw(alloc, node, partner)),
+        Line::Orders(node, to) => submit(alloc, node, to, at),
+        Line::Prepared(node, text) => prepared(alloc, node, text),
+        Line::Outside(node, text) => outside(alloc, node, text, at),
+        Line::Deliver(event, place) => Ok(deliver(event, place, at)),
         Line::Tick(node, now) => Ok(act(node, Action::Tick { now })),
         Line::Collect(node) => Ok(collect(HUB_NODE, node)),
         Line::CollectAt(hub, node) => Ok(collect(hub, node)),
@@ -136,40 +149,80 @@ pub(crate) fn are_told(packets: &[ToldPacket], event: u64, sends: &[(u16, Kind)]
     packets.len() == sends.len()
 }
 
+/// Whether this became of an event: it has this number, was not lost, and sends what is told.
+fn is_told(outcome: &Outcome, number: u64, sends: &[(u16, Kind)]) -> bool {
+    outcome.event == number && !outcome.lost && are_told(&outcome.packets, number, sends)
+}
+
+/// Stops the test unless this became of a story whose first event has this number.
+fn check(rt: &impl Abort, outcomes: &[Outcome], first: u64, story: &[Told]) {
+    assert!(rt; outcomes.len() == story.len());
+    let mut number = first;
+    for (outcome, (_, sends)) in outcomes.iter().zip(story) {
+        assert!(rt; is_told(outcome, number, sends), "event {number}");
+        number = number.saturating_add(1);
+    }
+}
+
 /// Runs a story whose first event has this number, and sees that each event sends what is told of it.
-pub(crate) fn plays(
+pub(crate) fn plays<R: Records, H: HubRecords>(
     rt: &impl Abort,
     alloc: Global,
-    world: &mut Net,
+    world: &mut World<R, H>,
     at: Moment,
     first: u64,
     story: &[Told],
 ) -> Result<(), Fail> {
     let events = events(alloc, story, at)?;
     let outcomes = world.run(&events)?;
-    assert_eq!(rt; outcomes.len(), story.len());
-    let mut number = first;
-    for (outcome, (_, sends)) in outcomes.iter().zip(story) {
-        assert!(rt; outcome.event == number && !outcome.lost, "event {number}");
-        assert!(rt; are_told(&outcome.packets, number, sends), "event {number}");
-        number = number.saturating_add(1);
-    }
+    check(rt, &outcomes, first, story);
     Ok(())
 }
 
+/// Whether the first set of ALPHA's interchange 1 fares so.
+pub(crate) fn fares<R: Records, H: HubRecords>(
+    world: &mut World<R, H>,
+    fate: Fate,
+) -> Result<bool, Refused> {
+    Ok(world.fate(&FIRST)? == Some(fate))
+}
+
+/// How many sets a node has posted.
+pub(crate) fn posted_at<R: Records, H: HubRecords>(
+    world: &mut World<R, H>,
+    node: u16,
+) -> Result<usize, Refused> {
+    Ok(world.postings(node)?.len())
+}
+
 /// Whether a network refuses the event of a line with this number of a refusal.
-pub(crate) fn refuses(
+pub(crate) fn refuses<R: Records, H: HubRecords>(
     alloc: Global,
-    world: &mut Net,
+    world: &mut World<R, H>,
     at: Moment,
     line: Line,
     number: &str,
-) -> Result<bool, Fail> {
+) -> Result<bool, AllocError> {
     let event = event(alloc, line, at)?;
     Ok(match world.apply(&event) {
         Ok(_) => false,
         Err(refused) => refused.number() == number,
     })
+}
+
+/// Stops the test unless a network refuses the events of these lines by these numbers.
+pub(crate) fn refuses_all<R: Records, H: HubRecords>(
+    rt: &impl Abort,
+    alloc: Global,
+    world: &mut World<R, H>,
+    at: Moment,
+    rows: &[(Line, &str)],
+) -> Result<(), AllocError> {
+    for (place, (line, number)) in rows.iter().enumerate() {
+        let refused = refuses(alloc, world, at, *line, number)?;
+        assert!(rt; refused, "{place} isn't {number}");
+    }
+    Ok(())
 }
 
 /// The bytes that a packet carries.
@@ -183,7 +236,12 @@ fn bytes_of(load: &Load) -> Option<&[u8]> {
 }
 
 /// Whether the packet of this name is held, and carries these bytes.
-pub(crate) fn carries(world: &Net, event: u64, place: u32, bytes: &[u8]) -> bool {
+pub(crate) fn carries<R: Records, H: HubRecords>(
+    world: &World<R, H>,
+    event: u64,
+    place: u32,
+    bytes: &[u8],
+) -> bool {
     match world.packet(&PacketName { event, place }) {
         Some(packet) => match bytes_of(&packet.load) {
             Some(carried) => carried == bytes,
@@ -191,137 +249,4 @@ pub(crate) fn carries(world: &Net, event: u64, place: u32, bytes: &[u8]) -> bool
         },
         None => false,
     }
-}
-
-/// A new hub of a party.
-pub(crate) fn hub_of(rt: &impl Abort, alloc: Global, me: Party) -> Hub<RecordsOfHub>
-    requires { IsTrue (is_plain_party me) }
-{
-    Hub::open(alloc, me, records_of_hub(rt, alloc, me))
-        .ok()
-        .expect(rt, "not opened")
-}
-
-/// A new hub of HUB.
-#[tactic(auto, unfolding(x12_envelopes::specs::Party::is_plain_party))]
-pub(crate) fn new_hub(rt: &impl Abort, alloc: Global) -> Hub<RecordsOfHub> {
-    hub_of(rt, alloc, HUB)
-}
-
-/// A new hub of OTHER.
-#[tactic(auto, unfolding(x12_envelopes::specs::Party::is_plain_party))]
-pub(crate) fn other_hub(rt: &impl Abort, alloc: Global) -> Hub<RecordsOfHub> {
-    hub_of(rt, alloc, OTHER)
-}
-
-/// A new station of a party, which deposits at this hub and knows the other one, if there is one.
-pub(crate) fn station_of(
-    rt: &impl Abort,
-    alloc: Global,
-    me: Party,
-    hub: Party,
-    other: Option<Party>,
-) -> Station<RecordsOfStation>
-    requires { IsTrue (is_plain_party me) }
-{
-    Station::open(
-        alloc,
-        me,
-        hub,
-        other,
-        records_of_station(rt, alloc, me, hub, other),
-    )
-    .ok()
-    .expect(rt, "not opened")
-}
-
-/// A new station of a party, which knows this hub alone.
-pub(crate) fn new_station(
-    rt: &impl Abort,
-    alloc: Global,
-    me: Party,
-    hub: Party,
-) -> Station<RecordsOfStation>
-    requires { IsTrue (is_plain_party me) }
-{
-    station_of(rt, alloc, me, hub, None)
-}
-
-/// Two stations, the first at node 1.
-pub(crate) fn both(
-    rt: &impl Abort,
-    alloc: Global,
-    first: Station<RecordsOfStation>,
-    second: Station<RecordsOfStation>,
-) -> Vec<Station<RecordsOfStation>> {
-    let mut stations = Vec::new(alloc);
-    stations.push(first).expect(rt, "memory was missing");
-    stations.push(second).expect(rt, "memory was missing");
-    stations
-}
-
-/// New stations of ALPHA, at node 1, and BETA, at node 2.
-#[tactic(auto, unfolding(x12_envelopes::specs::Party::is_plain_party))]
-pub(crate) fn two_stations(rt: &impl Abort, alloc: Global) -> Vec<Station<RecordsOfStation>> {
-    let alpha = new_station(rt, alloc, ALPHA, HUB);
-    both(rt, alloc, alpha, new_station(rt, alloc, BETA, HUB))
-}
-
-/// The same where there are two hubs: ALPHA at the first one, and BETA at the second.
-#[tactic(auto, unfolding(x12_envelopes::specs::Party::is_plain_party))]
-pub(crate) fn stations_of_two_hubs(
-    rt: &impl Abort,
-    alloc: Global,
-) -> Vec<Station<RecordsOfStation>> {
-    let alpha = station_of(rt, alloc, ALPHA, HUB, Some(OTHER));
-    let beta = station_of(rt, alloc, BETA, OTHER, Some(HUB));
-    both(rt, alloc, alpha, beta)
-}
-
-/// A network of these parts.
-fn founded(
-    rt: &impl Abort,
-    alloc: Global,
-    second: Option<Hub<RecordsOfHub>>,
-    stations: Vec<Station<RecordsOfStation>>,
-) -> Net {
-    match World::new(alloc, new_hub(rt, alloc), second, stations) {
-        Ok(world) => world,
-        Err(_) => panic!(rt; "no network"),
-    }
-}
-
-/// The network of a new hub, and new stations of ALPHA, at node 1, and BETA, at node 2.
-pub(crate) fn network(rt: &impl Abort, alloc: Global) -> Net {
-    founded(rt, alloc, None, two_stations(rt, alloc))
-}
-
-/// The network of two new hubs: the station of ALPHA, node 1, is at the first one, and that of BETA,
-/// node 2, at the second.
-pub(crate) fn network_of_two_hubs(rt: &impl Abort, alloc: Global) -> Net {
-    let second = Some(other_hub(rt, alloc));
-    founded(rt, alloc, second, stations_of_two_hubs(rt, alloc))
-}
-
-/// Closes stations, and counts those that were asked to do nothing yet.
-pub(crate) fn close<R: Records + Drop>(rt: &impl Abort, stations: Vec<Station<R>>) -> usize {
-    let mut count = 0usize;
-    let mut left = stations.into_iter();
-    for _ in 0..left.len() {
-        if let Some(station) = left.next() {
-            if station.is_new() {
-                count = count.saturating_add(1);
-            }
-            let _ = station.close();
-        }
-    }
-    assert!(rt; left.len() == 0);
-    left.destroy_empty();
-    count
-}
-
-/// Ends a network.
-pub(crate) fn end(rt: &impl Abort, world: Net) {
-    let (_, _, stations) = world.end();
-    let _ = close(rt, stations);
 }

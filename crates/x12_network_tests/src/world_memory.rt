@@ -7,14 +7,15 @@ ghost use Rattle.x12_world.specs.Headline.{Headline};
 ghost use Rattle.x12_world.specs.Loss.{Happening, run_so};
 
 use crate::fixture::{ALPHA, BETA, FIRST, HUB};
-use crate::world_fixture::{Line, close, event, half_past_nine};
+use crate::world_fixture::{Line, event, half_past_nine};
+use crate::world_nodes::{end, founded};
 use std::alloc::Global;
 use std::process::Abort;
 use std::test::Fail;
 use x12_envelopes::Party;
-use x12_hub::{Hub, MemoryHubRecords};
+use x12_hub::{Hub, HubRecords, MemoryHubRecords};
 use x12_outbound::Fate;
-use x12_station::{MemoryRecords, Station};
+use x12_station::{MemoryRecords, Records, Station};
 use x12_world::{Audit, Event, MemoryWorld, Outcome, Refused, World, run_in_memory};
 
 /// ALPHA's order comes to BETA, and BETA's reply to ALPHA.
@@ -64,10 +65,7 @@ fn network(rt: &impl Abort, alloc: Global) -> MemoryWorld {
     stations
         .push(station(rt, alloc, BETA))
         .expect(rt, "memory was missing");
-    match World::new(alloc, hub, None, stations) {
-        Ok(world) => world,
-        Err(_) => panic!(rt; "no network"),
-    }
+    founded(rt, World::new(alloc, hub, None, stations))
 }
 
 /// What a network told of events, and the network after them: whatever happens then, the headline
@@ -85,9 +83,9 @@ fn played(
 }
 
 /// What was told is an outcome of each event, and the order was accepted and posted once.
-fn arrived(
+fn arrived<R: Records, H: HubRecords>(
     rt: &impl Abort,
-    network: &mut MemoryWorld,
+    network: &mut World<R, H>,
     told: Result<Vec<Outcome>, (usize, Refused)>,
 ) -> Result<(), Fail> {
     assert_eq!(rt; told?.len(), STORY.len());
@@ -107,7 +105,6 @@ fn the_headline_holds_of_a_story_over_memory(rt: HostRuntime) -> Result<(), Fail
     let events = events(rt.alloc())?;
     let (mut network, told) = played(network(&rt, rt.alloc()), &events);
     let arrived = arrived(&rt, &mut network, told);
-    let (_, _, stations) = network.end();
-    let _ = close(&rt, stations);
+    end(&rt, network);
     arrived
 }

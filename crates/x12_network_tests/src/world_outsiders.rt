@@ -1,13 +1,16 @@
 //! What partners outside the network move: those who are no nodes.
 
-use crate::fixture::{FIRST, GAMMA};
-use crate::world_fixture::{Line, Net, Told, carries, end, half_past_nine, network, plays};
+use crate::fixture::GAMMA;
+use crate::world_fixture::{Line, Told, carries, fares, half_past_nine, plays, posted_at};
+use crate::world_tales::{Tale, tell_network};
 use std::alloc::Global;
 use std::process::Abort;
 use std::test::Fail;
+use x12_hub::HubRecords;
 use x12_outbound::{Counts, Fate};
 use x12_samples::moment;
-use x12_world::{HUB_NODE, Kind};
+use x12_station::Records;
+use x12_world::{HUB_NODE, Kind, World};
 
 /// GAMMA accepts ALPHA's order.
 const ACCEPTS: &[u8] =
@@ -41,10 +44,14 @@ const TWO_ANSWERS: [Told; 3] = [
     (Line::Outside(1, REJECTS), NOTHING),
 ];
 
-fn is_settled_once(rt: &impl Abort, alloc: Global, world: &mut Net) -> Result<(), Fail> {
+pub(crate) fn is_settled_once<R: Records, H: HubRecords>(
+    rt: &impl Abort,
+    alloc: Global,
+    world: &mut World<R, H>,
+) -> Result<(), Fail> {
     let at = half_past_nine()?;
     plays(rt, alloc, world, at, 1, &TWO_ANSWERS)?;
-    assert_eq!(rt; world.fate(&FIRST)?, Some(Fate::Accepted));
+    assert!(rt; fares(world, Fate::Accepted)?);
     let counts = Counts {
         settled: 1,
         repeated: 0,
@@ -52,16 +59,13 @@ fn is_settled_once(rt: &impl Abort, alloc: Global, world: &mut Net) -> Result<()
         conflicting: 1,
         unclear: 0,
     };
-    assert_eq!(rt; world.counts(1)?, counts);
+    assert!(rt; world.counts(1)? == counts);
     Ok(())
 }
 
 #[test]
 fn the_first_answer_of_a_partner_outside_settles(rt: HostRuntime) -> Result<(), Fail> {
-    let mut world = network(&rt, rt.alloc());
-    let settled = is_settled_once(&rt, rt.alloc(), &mut world);
-    end(&rt, world);
-    settled
+    tell_network(&rt, rt.alloc(), Tale::IsSettledOnce)
 }
 
 /// Two orders of GAMMA come to BETA under one number.
@@ -71,19 +75,19 @@ const TWO_ORDERS: [Told; 3] = [
     (Line::Outside(2, OTHER), DEPOSIT),
 ];
 
-fn is_posted_once(rt: &impl Abort, alloc: Global, world: &mut Net) -> Result<(), Fail> {
+pub(crate) fn posts_one_of_two<R: Records, H: HubRecords>(
+    rt: &impl Abort,
+    alloc: Global,
+    world: &mut World<R, H>,
+) -> Result<(), Fail> {
     let at = moment()?;
     plays(rt, alloc, world, at, 1, &TWO_ORDERS)?;
     assert!(rt; carries(world, 3, 1, DUPLICATE));
-    let postings = world.postings(2)?;
-    assert_eq!(rt; postings.len(), 1);
+    assert!(rt; posted_at(world, 2)? == 1);
     Ok(())
 }
 
 #[test]
 fn other_bytes_under_a_filed_number_are_refused(rt: HostRuntime) -> Result<(), Fail> {
-    let mut world = network(&rt, rt.alloc());
-    let posted = is_posted_once(&rt, rt.alloc(), &mut world);
-    end(&rt, world);
-    posted
+    tell_network(&rt, rt.alloc(), Tale::PostsOneOfTwo)
 }

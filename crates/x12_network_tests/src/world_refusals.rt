@@ -1,20 +1,21 @@
 //! What a network refuses, and leaves as it was.
 
-use crate::fixture::{ALPHA, BETA, FIRST, GAMMA, HUB};
+use crate::fixture::{ALPHA, BETA, GAMMA, HUB};
 use crate::hub::ORDER;
-use crate::kept_hub::RecordsOfHub;
-use crate::kept_station::RecordsOfStation;
+use crate::hub_fixture::new_hub;
+use crate::two_hubs_founding::asked;
 use crate::world_fixture::{
-    Line, Net, Told, carries, close, end, events, half_past_nine, network, new_hub, new_station,
-    plays, refuses, two_stations,
+    Line, Told, carries, events, fares, half_past_nine, plays, refuses_all,
 };
+use crate::world_nodes::{Back, Place, TWO, end, founded, made_none, made_of, stations_of};
+use crate::world_tales::{Tale, tell_network};
 use std::alloc::Global;
 use std::process::Abort;
 use std::test::Fail;
 use x12_envelopes::Party;
-use x12_hub::Hub;
+use x12_hub::HubRecords;
 use x12_outbound::Fate;
-use x12_station::Station;
+use x12_station::{Records, Station};
 use x12_world::{HUB_NODE, Kind, Refused, World};
 
 /// An interchange in the hub's name.
@@ -61,15 +62,14 @@ const ON: [Told; 2] = [
     (Line::Collect(2), &[(2, Kind::Item(1))]),
 ];
 
-fn goes_on(rt: &impl Abort, alloc: Global, world: &mut Net) -> Result<(), Fail> {
+pub(crate) fn takes_no_number<R: Records, H: HubRecords>(
+    rt: &impl Abort,
+    alloc: Global,
+    world: &mut World<R, H>,
+) -> Result<(), Fail> {
     let at = half_past_nine()?;
     plays(rt, alloc, world, at, 1, &SUBMITTED)?;
-    for (line, number) in REFUSED {
-        assert!(rt;
-            refuses(alloc, world, at, line, number)?,
-            "{line:?} isn't {number}"
-        );
-    }
+    refuses_all(rt, alloc, world, at, &REFUSED)?;
     plays(rt, alloc, world, at, 5, &ON)?;
     assert!(rt; carries(world, 6, 1, ORDER));
     Ok(())
@@ -77,13 +77,10 @@ fn goes_on(rt: &impl Abort, alloc: Global, world: &mut Net) -> Result<(), Fail> 
 
 #[test]
 fn a_refused_event_takes_no_number(rt: HostRuntime) -> Result<(), Fail> {
-    let mut world = network(&rt, rt.alloc());
-    let on = goes_on(&rt, rt.alloc(), &mut world);
-    end(&rt, world);
-    on
+    tell_network(&rt, rt.alloc(), Tale::TakesNoNumber)
 }
 
-/// A run that stops at its third event.
+/// A run that stops_at_a_refusal at its third event.
 const STOPS: [Told; 4] = [
     (Line::Enrol(ALPHA, 1), NOTHING),
     (Line::Prepared(1, ORDER), NOTHING),
@@ -94,119 +91,108 @@ const STOPS: [Told; 4] = [
 /// And what comes after it.
 const STOPPED: [Told; 1] = [(Line::Deliver(2, 1), &[(1, Kind::Refusal)])];
 
-fn stops(rt: &impl Abort, alloc: Global, world: &mut Net) -> Result<(), Fail> {
+pub(crate) fn stops_at_a_refusal<R: Records, H: HubRecords>(
+    rt: &impl Abort,
+    alloc: Global,
+    world: &mut World<R, H>,
+) -> Result<(), Fail> {
     let at = half_past_nine()?;
     let events = events(alloc, &STOPS, at)?;
-    match world.run(&events) {
-        Ok(_) => return Err(Fail::new("not stopped")),
-        Err(stopped) => assert_eq!(rt; stopped, (2, Refused::NoSuchNode)),
-    }
-    assert!(rt; carries(world, 2, 1, ORDER));
-    assert_eq!(rt; world.fate(&FIRST)?, Some(Fate::Pending));
+    let stopped = world.run(&events).err();
+    assert!(rt; stopped == Some((2, Refused::NoSuchNode)));
+    assert!(rt; carries(world, 2, 1, ORDER) && fares(world, Fate::Pending)?);
     plays(rt, alloc, world, at, 3, &STOPPED)
 }
 
 #[test]
 fn a_run_stops_at_the_first_refusal(rt: HostRuntime) -> Result<(), Fail> {
-    let mut world = network(&rt, rt.alloc());
-    let stopped = stops(&rt, rt.alloc(), &mut world);
-    end(&rt, world);
-    stopped
+    tell_network(&rt, rt.alloc(), Tale::StopsAtARefusal)
 }
 
-/// Whether these parts make no network, and come back: so many stations, of which so many are new.
-fn make_no_network(
-    rt: &impl Abort,
-    alloc: Global,
-    hub: Hub<RecordsOfHub>,
-    stations: Vec<Station<RecordsOfStation>>,
-    count: usize,
-    new: usize,
-) -> bool {
-    match World::new(alloc, hub, None, stations) {
-        Ok(world) => {
-            end(rt, world);
-            false
-        }
-        Err((hub, second, stations, refused)) => {
-            let all = hub.party() == HUB && second.is_none() && stations.len() == count;
-            close(rt, stations) == new
-                && all
-                && refused == Refused::BadNetwork
-                && refused.number() == "V6"
-        }
-    }
+/// Whether a new hub makes no network with these new stations, and all come back.
+fn make_none(rt: &impl Abort, alloc: Global, places: &[Place]) -> bool {
+    let (stations, new) = (places.len(), places.len());
+    let back = Back {
+        second: None,
+        stations,
+        new,
+    };
+    made_none(rt, made_of(rt, alloc, None, places), back)
 }
 
 #[test]
 fn no_stations_make_no_network(rt: HostRuntime) {
-    let hub = new_hub(&rt, rt.alloc());
-    assert!(rt; make_no_network(&rt, rt.alloc(), hub, Vec::new(rt.alloc()), 0, 0));
+    assert!(rt; make_none(&rt, rt.alloc(), &[]));
 }
 
-/// New stations of so many parties.
-fn many_stations(rt: &impl Abort, alloc: Global, count: usize) -> Vec<Station<RecordsOfStation>> {
-    let mut stations = Vec::new(alloc);
+/// So many parties at HUB.
+fn many(rt: &impl Abort, alloc: Global, count: usize) -> Vec<Place> {
+    let mut places = Vec::new(alloc);
     for letter in b"ABCDEFGHIJKLMNOPQ".iter().take(count) {
         let party = Party::new(*b"ZZ", &[b'S', *letter]).expect(rt, "a short name");
-        assert!(rt; party.is_plain());
-        stations
-            .push(new_station(rt, alloc, party, HUB))
-            .expect(rt, "memory was missing");
+        let place = (party, HUB, None);
+        places.push(place).expect(rt, "memory was missing");
     }
-    stations
+    places
 }
 
 #[test]
 fn sixteen_stations_make_a_network_and_seventeen_none(rt: HostRuntime) {
     let alloc = rt.alloc();
-    let stations = many_stations(&rt, alloc, 16);
-    match World::new(alloc, new_hub(&rt, alloc), None, stations) {
-        Ok(world) => end(&rt, world),
-        Err(_) => panic!(&rt; "sixteen stations make none"),
-    }
-    let stations = many_stations(&rt, alloc, 17);
-    assert!(rt; make_no_network(&rt, alloc, new_hub(&rt, alloc), stations, 17, 17));
+    let made = made_of(&rt, alloc, None, &many(&rt, alloc, 16));
+    end(&rt, founded(&rt, made));
+    assert!(rt; make_none(&rt, alloc, &many(&rt, alloc, 17)));
 }
 
-/// ALPHA, BETA and a third station.
-fn third(
-    rt: &impl Abort,
-    alloc: Global,
-    station: Station<RecordsOfStation>,
-) -> Vec<Station<RecordsOfStation>> {
-    let mut stations = two_stations(rt, alloc);
-    stations.push(station).expect(rt, "memory was missing");
+#[test]
+fn two_nodes_of_one_party_make_no_network(rt: HostRuntime) {
+    let [alpha, beta] = TWO;
+    for me in [ALPHA, HUB] {
+        let places = [alpha, beta, (me, HUB, None)];
+        assert!(rt; make_none(&rt, rt.alloc(), &places), "{me:?}");
+    }
+}
+
+#[test]
+fn a_station_of_another_hub_makes_no_network(rt: HostRuntime) {
+    let [alpha, beta] = TWO;
+    let places = [alpha, beta, (GAMMA, BETA, None)];
+    assert!(rt; make_none(&rt, rt.alloc(), &places));
+}
+
+/// Stations, of which the last one was told the time.
+fn ticked<R: Records>(rt: &impl Abort, stations: Vec<Station<R>>) -> Vec<Station<R>> {
+    let mut stations = stations;
+    if let Some(last) = stations.last_mut() {
+        let _ = last.tick(1).expect(rt, "memory was missing");
+    }
     stations
 }
 
 #[test]
-#[tactic(auto, unfolding(x12_envelopes::specs::Party::is_plain_party))]
-fn two_nodes_of_one_party_make_no_network(rt: HostRuntime) {
+fn a_station_that_was_asked_something_makes_no_network(rt: HostRuntime) {
     let alloc = rt.alloc();
-    let alpha = third(&rt, alloc, new_station(&rt, alloc, ALPHA, HUB));
-    assert!(rt; make_no_network(&rt, alloc, new_hub(&rt, alloc), alpha, 3, 3));
-    let hub = third(&rt, alloc, new_station(&rt, alloc, HUB, HUB));
-    assert!(rt; make_no_network(&rt, alloc, new_hub(&rt, alloc), hub, 3, 3));
+    let [alpha, beta] = TWO;
+    let places = [alpha, beta, (GAMMA, HUB, None)];
+    let stations = ticked(&rt, stations_of(&rt, alloc, &places));
+    let made = World::new(alloc, new_hub(&rt, alloc), None, stations);
+    let back = Back {
+        second: None,
+        stations: 3,
+        new: 2,
+    };
+    assert!(rt; made_none(&rt, made, back));
 }
 
 #[test]
-#[tactic(auto, unfolding(x12_envelopes::specs::Party::is_plain_party))]
-fn a_station_of_another_hub_makes_no_network(rt: HostRuntime) {
+fn a_hub_that_was_asked_something_makes_no_network(rt: HostRuntime) {
     let alloc = rt.alloc();
-    let stations = third(&rt, alloc, new_station(&rt, alloc, GAMMA, BETA));
-    assert!(rt; make_no_network(&rt, alloc, new_hub(&rt, alloc), stations, 3, 3));
-}
-
-#[test]
-#[tactic(auto, unfolding(x12_envelopes::specs::Party::is_plain_party))]
-fn a_node_that_was_asked_something_makes_no_network(rt: HostRuntime) {
-    let alloc = rt.alloc();
-    let mut gamma = new_station(&rt, alloc, GAMMA, HUB);
-    let _ = gamma.tick(1).expect(&rt, "memory was missing");
-    let stations = third(&rt, alloc, gamma);
-    assert!(rt; make_no_network(&rt, alloc, new_hub(&rt, alloc), stations, 3, 2));
-    let mut hub = new_hub(&rt, alloc);
-    hub.enrol(ALPHA, 1).expect(&rt, "memory was missing");
-    assert!(rt; make_no_network(&rt, alloc, hub, two_stations(&rt, alloc), 2, 2));
+    let hub = asked(&rt, new_hub(&rt, alloc), 1);
+    let made = World::new(alloc, hub, None, stations_of(&rt, alloc, &TWO));
+    let back = Back {
+        second: None,
+        stations: 2,
+        new: 2,
+    };
+    assert!(rt; made_none(&rt, made, back));
 }

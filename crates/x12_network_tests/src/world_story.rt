@@ -1,14 +1,18 @@
 //! Stories of a network of ALPHA and BETA: what each event sends, and what everybody holds at the end.
 
 use crate::fixture::{ALPHA, BETA, FIRST};
-use crate::world_fixture::{Line, Net, Told, carries, close, end, half_past_nine, network, plays};
+use crate::world_fixture::{Line, Told, carries, fares, half_past_nine, plays, posted_at};
+use crate::world_nodes::{close, network};
+use crate::world_tales::{Tale, tell_network};
 use std::alloc::Global;
 use std::process::Abort;
 use std::test::Fail;
 use x12_envelopes::SetNo;
+use x12_hub::{Hub, HubRecords};
 use x12_inbound::Posting;
 use x12_outbound::{Counts, Fate};
-use x12_world::{HUB_NODE, Kind};
+use x12_station::Records;
+use x12_world::{HUB_NODE, Kind, World};
 
 /// ALPHA's order to BETA, as its station writes it at 09:30.
 pub(crate) const ORDER: &[u8] =
@@ -84,7 +88,9 @@ fn is_the_order(posting: &Posting) -> bool {
 }
 
 /// Whether BETA has posted ALPHA's order once, and nothing else.
-pub(crate) fn is_posted_once(world: &mut Net) -> Result<bool, Fail> {
+pub(crate) fn is_posted_once<R: Records, H: HubRecords>(
+    world: &mut World<R, H>,
+) -> Result<bool, Fail> {
     let postings = world.postings(2)?;
     Ok(match postings.as_slice() {
         [posting] => is_the_order(posting),
@@ -93,7 +99,7 @@ pub(crate) fn is_posted_once(world: &mut Net) -> Result<bool, Fail> {
 }
 
 /// What is counted and held at its end.
-fn ends_well(rt: &impl Abort, world: &Net) -> Result<(), Fail> {
+fn ends_well<R: Records, H: HubRecords>(rt: &impl Abort, world: &World<R, H>) -> Result<(), Fail> {
     for event in [4, 13] {
         assert!(rt; carries(world, event, 1, ORDER), "event {event}");
     }
@@ -102,33 +108,50 @@ fn ends_well(rt: &impl Abort, world: &Net) -> Result<(), Fail> {
     }
     assert!(rt; carries(world, 7, 1, ORDER) && carries(world, 15, 1, ORDER));
     assert!(rt; carries(world, 18, 1, REPLY));
-    assert_eq!(rt; world.counts(1)?, counts(1, 0));
-    assert_eq!(rt; world.counts(2)?, counts(0, 0));
+    assert!(rt; world.counts(1)? == counts(1, 0));
+    assert!(rt; world.counts(2)? == counts(0, 0));
     Ok(())
 }
 
 /// The long story.
-fn goes_on(rt: &impl Abort, alloc: Global, world: &mut Net) -> Result<(), Fail> {
+fn goes_on<R: Records, H: HubRecords>(
+    rt: &impl Abort,
+    alloc: Global,
+    world: &mut World<R, H>,
+) -> Result<(), Fail> {
     let at = half_past_nine()?;
     plays(rt, alloc, world, at, 1, &UP_TO_BETA)?;
-    assert!(rt; is_posted_once(world)?);
-    assert_eq!(rt; world.fate(&FIRST)?, Some(Fate::Pending));
+    assert!(rt; is_posted_once(world)? && fares(world, Fate::Pending)?);
     plays(rt, alloc, world, at, 10, &BACK_TO_ALPHA)?;
-    assert!(rt; is_posted_once(world)? && world.postings(1)?.is_empty());
-    assert_eq!(rt; world.fate(&FIRST)?, Some(Fate::Accepted));
+    assert!(rt; is_posted_once(world)? && posted_at(world, 1)? == 0);
+    assert!(rt; fares(world, Fate::Accepted)?);
     ends_well(rt, world)
+}
+
+/// Whether the reply waits for ALPHA, and the order for BETA.
+fn wait_both<H: HubRecords>(hub: &Hub<H>) -> Result<bool, Fail> {
+    let reply_waits = hub.mailbox(1)?.as_slice() == [2].as_slice();
+    Ok(reply_waits && hub.mailbox(2)?.as_slice() == [1].as_slice())
+}
+
+/// Tells a network the story, and ends it: whether it has one hub, at which both wait still.
+fn waits_at_end<R: Records + Drop, H: HubRecords + Drop>(
+    rt: &impl Abort,
+    alloc: Global,
+    world: World<R, H>,
+) -> Result<bool, Fail> {
+    let mut world = world;
+    let story = goes_on(rt, alloc, &mut world);
+    let (hub, second, stations) = world.end();
+    let _ = close(rt, stations);
+    story?;
+    Ok(second.is_none() && wait_both(&hub)?)
 }
 
 #[test]
 fn losses_repeats_and_restarts_change_nothing_of_an_order(rt: HostRuntime) -> Result<(), Fail> {
-    let mut world = network(&rt, rt.alloc());
-    let story = goes_on(&rt, rt.alloc(), &mut world);
-    let (hub, second, stations) = world.end();
-    let _ = close(&rt, stations);
-    story?;
-    assert!(rt; second.is_none());
-    assert_eq!(rt; hub.mailbox(1)?.as_slice(), [2].as_slice());
-    assert_eq!(rt; hub.mailbox(2)?.as_slice(), [1].as_slice());
+    let world = network(&rt, rt.alloc());
+    assert!(rt; waits_at_end(&rt, rt.alloc(), world)?);
     Ok(())
 }
 
@@ -138,7 +161,11 @@ const WITHDRAWN: [Told; 2] = [
     (Line::Deliver(7, 1), TAKEN_AND_REPLY),
 ];
 
-fn is_answered_as_before(rt: &impl Abort, alloc: Global, world: &mut Net) -> Result<(), Fail> {
+pub(crate) fn is_answered_as_before<R: Records, H: HubRecords>(
+    rt: &impl Abort,
+    alloc: Global,
+    world: &mut World<R, H>,
+) -> Result<(), Fail> {
     let at = half_past_nine()?;
     plays(rt, alloc, world, at, 1, &UP_TO_BETA)?;
     plays(rt, alloc, world, at, 10, &WITHDRAWN)?;
@@ -149,10 +176,7 @@ fn is_answered_as_before(rt: &impl Abort, alloc: Global, world: &mut Net) -> Res
 
 #[test]
 fn a_repeat_gets_the_kept_reply_after_the_agreement_is_gone(rt: HostRuntime) -> Result<(), Fail> {
-    let mut world = network(&rt, rt.alloc());
-    let answered = is_answered_as_before(&rt, rt.alloc(), &mut world);
-    end(&rt, world);
-    answered
+    tell_network(&rt, rt.alloc(), Tale::IsAnsweredAsBefore)
 }
 
 /// The hub refuses the order, since BETA isn't enrolled, and again after the enrolment.
@@ -167,19 +191,19 @@ const TOO_EARLY: [Told; 8] = [
     (Line::Deliver(7, 1), NOTHING),
 ];
 
-fn is_refused_twice(rt: &impl Abort, alloc: Global, world: &mut Net) -> Result<(), Fail> {
+pub(crate) fn is_refused_twice<R: Records, H: HubRecords>(
+    rt: &impl Abort,
+    alloc: Global,
+    world: &mut World<R, H>,
+) -> Result<(), Fail> {
     let at = half_past_nine()?;
     plays(rt, alloc, world, at, 1, &TOO_EARLY)?;
     assert!(rt; carries(world, 4, 1, REFUSAL) && carries(world, 7, 1, REFUSAL));
-    assert_eq!(rt; world.fate(&FIRST)?, Some(Fate::Rejected));
-    assert!(rt; world.postings(2)?.is_empty());
+    assert!(rt; fares(world, Fate::Rejected)? && posted_at(world, 2)? == 0);
     Ok(())
 }
 
 #[test]
 fn the_refusal_of_the_hub_stands_after_the_enrolment(rt: HostRuntime) -> Result<(), Fail> {
-    let mut world = network(&rt, rt.alloc());
-    let refused = is_refused_twice(&rt, rt.alloc(), &mut world);
-    end(&rt, world);
-    refused
+    tell_network(&rt, rt.alloc(), Tale::IsRefusedTwice)
 }

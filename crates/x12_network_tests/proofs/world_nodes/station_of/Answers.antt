@@ -1,4 +1,4 @@
-use Rattle.x12_network_tests.proofs.world_fixture.station_of.Goals as goal
+use Rattle.x12_network_tests.proofs.world_nodes.station_of.Goals as goal
 
 -- records that hold nothing were written by the station whose they are
 pub open-requires-clause-written : goal.open-requires-clause-written
