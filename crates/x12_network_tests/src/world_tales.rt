@@ -38,11 +38,34 @@ pub(crate) enum TaleOfTwo {
     ServesNoHubItself,
 }
 
-impl Tale {
+/// What is told to a network.
+trait Told: Drop {
     /// Tells it, and stops the test unless all is as it is to be.
-    fn tell<R: Records, H: HubRecords>(
+    fn tell<A: Abort, R: Records, H: HubRecords>(
         self,
-        rt: &impl Abort,
+        rt: &A,
+        alloc: Global,
+        world: &mut World<R, H>,
+    ) -> Result<(), Fail>;
+}
+
+/// Tells it to a network, which ends then.
+fn tell_to<T: Told, R: Records + Drop, H: HubRecords + Drop>(
+    rt: &impl Abort,
+    alloc: Global,
+    tale: T,
+    world: World<R, H>,
+) -> Result<(), Fail> {
+    let mut world = world;
+    let told = tale.tell(rt, alloc, &mut world);
+    end(rt, world);
+    told
+}
+
+impl Told for Tale {
+    fn tell<A: Abort, R: Records, H: HubRecords>(
+        self,
+        rt: &A,
         alloc: Global,
         world: &mut World<R, H>,
     ) -> Result<(), Fail> {
@@ -57,31 +80,17 @@ impl Tale {
             Tale::IsRefusedTwice => is_refused_twice(rt, alloc, world),
         }
     }
-
-    /// Tells it to a network, which ends then.
-    fn tell_to<R: Records + Drop, H: HubRecords + Drop>(
-        self,
-        rt: &impl Abort,
-        alloc: Global,
-        world: World<R, H>,
-    ) -> Result<(), Fail> {
-        let mut world = world;
-        let told = self.tell(rt, alloc, &mut world);
-        end(rt, world);
-        told
-    }
 }
 
 /// Tells it to the network of ALPHA and BETA at one hub.
 pub(crate) fn tell_network(rt: &impl Abort, alloc: Global, tale: Tale) -> Result<(), Fail> {
-    tale.tell_to(rt, alloc, network(rt, alloc))
+    tell_to(rt, alloc, tale, network(rt, alloc))
 }
 
-impl TaleOfTwo {
-    /// Tells it, and stops the test unless all is as it is to be.
-    fn tell<R: Records, H: HubRecords>(
+impl Told for TaleOfTwo {
+    fn tell<A: Abort, R: Records, H: HubRecords>(
         self,
-        rt: &impl Abort,
+        rt: &A,
         alloc: Global,
         world: &mut World<R, H>,
     ) -> Result<(), Fail> {
@@ -93,19 +102,6 @@ impl TaleOfTwo {
             TaleOfTwo::ServesNoHubItself => serves_no_hub_itself(rt, alloc, world),
         }
     }
-
-    /// Tells it to a network, which ends then.
-    fn tell_to<R: Records + Drop, H: HubRecords + Drop>(
-        self,
-        rt: &impl Abort,
-        alloc: Global,
-        world: World<R, H>,
-    ) -> Result<(), Fail> {
-        let mut world = world;
-        let told = self.tell(rt, alloc, &mut world);
-        end(rt, world);
-        told
-    }
 }
 
 /// Tells it to the network of ALPHA and BETA at two hubs.
@@ -114,5 +110,5 @@ pub(crate) fn tell_network_of_two_hubs(
     alloc: Global,
     tale: TaleOfTwo,
 ) -> Result<(), Fail> {
-    tale.tell_to(rt, alloc, network_of_two_hubs(rt, alloc))
+    tell_to(rt, alloc, tale, network_of_two_hubs(rt, alloc))
 }
