@@ -1,8 +1,9 @@
 -- What is supposed of the files that a station is opened over, which a run of a station leaves so.
 use Rattle.std.specs.Prelude.{◌≡◌, All}
 use Rattle.sqlite.specs.Files.{HoldsDatabase, AreFoundIn}
-use Rattle.sqlite.specs.State.{State, HasCleanDisk}
+use Rattle.sqlite_trees.specs.declared.store.Store.{Ghosts}
 use Rattle.sqlite_trees.specs.Tree.{Trees}
+use Rattle.sqlite_trees.specs.View.{IsClean}
 use Rattle.sqlite_wal.specs.Recovery.{Image}
 use Rattle.x12_profile.specs.X12.{x12}
 use Rattle.x12_station.specs.Durable.{IsOwnSubmission, IsFiledRightly, IsAnsweredRightly, fared_entries, items_of}
@@ -38,7 +39,7 @@ IsStations db = (next : NextRows) →
 abbrev pub AreLeft : Image → Type 0
 AreLeft image = (db : Trees) → IsFoundIn image db → IsStations db
 
--- Whatever a stop leaves of this database, over a clean disk: the station that its records name wrote
--- them.
-abbrev pub LeavesStation : State → Type 0
-LeavesStation s = HasCleanDisk s → (db : Trees) → s.may_leave db → IsWritten (content_of db)
+-- Whatever a stop leaves of the database in this store, over a clean disk: the station that its records
+-- name wrote them.
+abbrev pub LeavesStation : {S : Type 0} → Ghosts S → S → Type 0
+LeavesStation g store = IsClean (g.view store) → (db : Trees) → g.recovers store db → IsWritten (content_of db)

@@ -1,10 +1,11 @@
 //! A station and a hub over the records in a database file.
 
-ghost use Rattle.std.specs.Prelude.{◌≡◌, ◌∷◌, IsTrue, IfOk, option_to_list};
+ghost use Rattle.std.specs.Prelude.{◌≡◌, ◌∷◌, IsTrue, IfOk, Ok, option_to_list};
 ghost use Rattle.sqlite.specs.Files.{file_state, image_of};
-ghost use Rattle.sqlite.specs.Held.{state};
+ghost use Rattle.sqlite.specs.Held.{AreDatabases, state};
 ghost use Rattle.sqlite.specs.State.{HasCleanDisk, Opens};
 ghost use Rattle.sqlite_trees.specs.Tree.{Trees};
+ghost use Rattle.sqlite_trees.specs.View.{IsClean};
 ghost use Rattle.sqlite_wal.specs.Files.{image_at, outcomes};
 ghost use Rattle.sqlite_wal.specs.Reads.{AreClean};
 ghost use Rattle.sqlite_wal.specs.Recovery.{Image};
@@ -74,6 +75,28 @@ fn station_over<S: Alter + Drop>(
     }
 }
 
+/// Opens a station over the records in the database that was found in files, if it was opened.
+fn station_in<D: Disk + Drop, L: Drop>(
+    alloc: Global,
+    found: Result<Connection<FileStore<D>>, (sqlite::Error, L)>,
+    me: Party,
+    hub: Party,
+    other: Option<Party>,
+) -> Result<Station<SqliteRecords<FileStore<D>>>, OpenFault>
+    requires plain { IsTrue (is_plain_party me) }
+    requires live { IfOk found (λ c. HasCleanDisk (file_state c) → Opens (file_state c)) }
+    requires left { IfOk found (λ c. HasCleanDisk (file_state c) →
+        IsStations (file_state c).committed.trees) }
+    ensures opened { IfOk result (λ s. IsTrue s.answers → (conn : _) × (found ≡ Ok conn)
+        × HasCleanDisk (file_state conn) × (s.state ≡ opened me (hub ∷ option_to_list other)
+        (content_of (file_state conn).committed.trees))) }
+{
+    match found {
+        Ok(conn) => station_over(alloc, conn, me, hub, other),
+        Err((error, _)) => Err(OpenFault::Database(error)),
+    }
+}
+
 /// Opens the station of this party at this hub, which may be connected to another one, over the
 /// database at this path and the log beside it, which the station wrote that the database names. A
 /// missing file is made, and refused as one without tables.
@@ -91,10 +114,8 @@ pub fn open_station<S: Start>(
         × IsFoundIn (image_at S.Start) db
         × (s.state ≡ opened me (hub ∷ option_to_list other) (content_of db))) }
 {
-    match Connection::open_from(rt, path, false, start) {
-        Ok(conn) => station_over(rt.alloc(), conn, me, hub, other),
-        Err((error, _)) => Err(OpenFault::Database(error)),
-    }
+    let found = Connection::open_from(rt, path, false, start);
+    station_in(rt.alloc(), found, me, hub, other)
 }
 
 /// The same of what the files hold: a program's own call, which owes nothing of them.
@@ -129,26 +150,18 @@ pub fn open_station_over<D: Disk + Drop>(
         × IsFoundIn (image_of D.Disk files) db
         × (s.state ≡ opened me (hub ∷ option_to_list other) (content_of db))) }
 {
-    match Connection::open_files(alloc, files, options) {
-        Ok(conn) => station_over(alloc, conn, me, hub, other),
-        Err((error, _)) => Err(OpenFault::Database(error)),
-    }
+    let found = Connection::open_files(alloc, files, options);
+    station_in(alloc, found, me, hub, other)
 }
 
-/// Ends a station, and gives back the connection to its database.
-fn end_station<S: Alter + Drop>(station: Station<SqliteRecords<S>>) -> Connection<S>
-    ensures { LeavesStation (state S.Store result) }
+/// Ends a station, and gives back the store of its database: whatever is recovered of it, the station
+/// that its records name wrote.
+fn end_station<S: Alter + Drop>(station: Station<SqliteRecords<S>>) -> S
+    ensures numbered { IsClean (S.Store.view result) → IsTrue (S.Store.view result).is_numbered }
+    ensures sound { IsClean (S.Store.view result) → AreDatabases (S.Store.recovers result) }
+    ensures left { LeavesStation S.Store result }
 {
-    station.close().into_connection()
-}
-
-/// Ends a connection to a station's database, and gives back its log and database file.
-fn end_connection<D: Disk + Drop>(conn: Connection<FileStore<D>>) -> Files<D>
-    requires { LeavesStation (file_state conn) }
-    ensures { AreClean D.Disk result.log result.db → (image : Image) →
-        outcomes D.Disk result.log result.db image → AreLeft image }
-{
-    conn.into_store().close()
+    station.close().into_connection().into_store()
 }
 
 /// Ends a station, and gives its log and database file back as they stand: over whatever a stop leaves
@@ -157,7 +170,7 @@ pub fn leave_station<D: Disk + Drop>(station: Station<SqliteRecords<FileStore<D>
     ensures left { AreClean D.Disk result.log result.db → (image : Image) →
         outcomes D.Disk result.log result.db image → AreLeft image }
 {
-    end_connection(end_station(station))
+    end_station(station).close()
 }
 
 /// Opens a hub over the records in a database.
@@ -181,6 +194,24 @@ fn hub_over<S: Alter + Drop>(
     }
 }
 
+/// Opens a hub over the records in the database that was found in files, if it was opened.
+fn hub_in<D: Disk + Drop, L: Drop>(
+    alloc: Global,
+    found: Result<Connection<FileStore<D>>, (sqlite::Error, L)>,
+    me: Party,
+) -> Result<Hub<SqliteHubRecords<FileStore<D>>>, OpenFault>
+    requires plain { IsTrue (is_plain_party me) }
+    requires live { IfOk found (λ c. HasCleanDisk (file_state c) → Opens (file_state c)) }
+    ensures opened { IfOk result (λ h. IsTrue h.answers → (conn : _) × (found ≡ Ok conn)
+        × HasCleanDisk (file_state conn)
+        × (h.hub ≡ hub_of me (hub_content_of (file_state conn).committed.trees))) }
+{
+    match found {
+        Ok(conn) => hub_over(alloc, conn, me),
+        Err((error, _)) => Err(OpenFault::Database(error)),
+    }
+}
+
 /// Opens the hub of this party over the database at this path and the log beside it. What is in the
 /// files is tested as a whole, so nothing is supposed of it. A missing file is made, and refused as one
 /// without tables.
@@ -194,10 +225,8 @@ pub fn open_hub<S: Start>(
     ensures opened { IfOk result (λ h. IsTrue h.answers → (db : Trees)
         × IsFoundIn (image_at S.Start) db × (h.hub ≡ hub_of me (hub_content_of db))) }
 {
-    match Connection::open_from(rt, path, false, start) {
-        Ok(conn) => hub_over(rt.alloc(), conn, me),
-        Err((error, _)) => Err(OpenFault::Database(error)),
-    }
+    let found = Connection::open_from(rt, path, false, start);
+    hub_in(rt.alloc(), found, me)
 }
 
 /// Opens the hub of this party over a log and its database file that a program holds, as one in memory
@@ -215,8 +244,6 @@ pub fn open_hub_over<D: Disk + Drop>(
     ensures opened { IfOk result (λ h. IsTrue h.answers → (db : Trees)
         × IsFoundIn (image_of D.Disk files) db × (h.hub ≡ hub_of me (hub_content_of db))) }
 {
-    match Connection::open_files(alloc, files, options) {
-        Ok(conn) => hub_over(alloc, conn, me),
-        Err((error, _)) => Err(OpenFault::Database(error)),
-    }
+    let found = Connection::open_files(alloc, files, options);
+    hub_in(alloc, found, me)
 }
