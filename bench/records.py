@@ -1,10 +1,11 @@
 #!/usr/bin/env python3
 """Measures records in tables of a file beside the same statements in C over SQLite: bench/records.py [EVENTS].
 
-Builds what checks/database_file has as a program, proved, over the libraries as they are proved; bench/records/statements, which runs
-the statements alone over the toolchain's SQLite, over a file and in memory, without the look-up in front of an arrival and a
-deposit; and bench/records/main.c with the C compiler over libsqlite3 (with its header). Tells instructions of an event by
-valgrind, without the kernel's, and microseconds of the processor, the kernel's too.
+Builds what checks/database_file has as a program, proved, over the libraries as they are proved;
+bench/records/statements, which runs the statements alone over the toolchain's SQLite, over a file and in memory,
+without the look-up in front of an arrival and a deposit; and bench/records/main.c with the C compiler over libsqlite3
+(with its header). Tells instructions of an event by valgrind, without the kernel's, and microseconds of the processor,
+the kernel's too.
 """
 import os
 import re

@@ -141,10 +141,20 @@ pub(crate) fn follow<H: HubRecords>(
     Ok(())
 }
 
+/// The same of a hub whose records never failed, and don't now.
+pub(crate) fn follow_well<H: HubRecords>(
+    rt: &impl Abort,
+    hub: &mut Hub<H>,
+    asks: &[(Ask, Answer)],
+) {
+    follow(rt, hub, asks).expect(rt, "refused");
+    assert!(rt; hub.failures() == 0);
+}
+
 /// Asks a new hub so.
 fn follow_new(rt: &impl Abort, alloc: Global, asks: &[(Ask, Answer)]) {
     let mut hub = new_hub(rt, alloc);
-    follow(rt, &mut hub, asks).expect(rt, "refused");
+    follow_well(rt, &mut hub, asks);
 }
 
 #[test]
@@ -271,10 +281,10 @@ fn opened_again<H: HubRecords>(rt: &impl Abort, alloc: Global, hub: Hub<H>) -> H
 /// Stops the test unless a new hub that is closed goes on where it was.
 fn goes_on<H: HubRecords + Drop>(rt: &impl Abort, alloc: Global, hub: Hub<H>) {
     let mut hub = hub;
-    follow(rt, &mut hub, &BEFORE).expect(rt, "refused");
+    follow_well(rt, &mut hub, &BEFORE);
     assert!(rt; !hub.is_new());
     let mut hub = opened_again(rt, alloc, hub);
-    follow(rt, &mut hub, &BEHIND).expect(rt, "refused");
+    follow_well(rt, &mut hub, &BEHIND);
 }
 
 #[test]

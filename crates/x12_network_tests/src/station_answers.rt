@@ -238,7 +238,7 @@ fn the_hub_settles_what_it_refuses(rt: HostRuntime) {
 fn either_hub_settles_what_it_refuses(rt: HostRuntime) {
     let mut alpha = new_alpha_of_two(&rt, rt.alloc());
     believes_both_hubs(&rt, rt.alloc(), &mut alpha).expect(&rt, "refused");
-    let _ = failures_at_end(alpha);
+    assert!(rt; failures_at_end(alpha) == 0);
 }
 
 #[test]

@@ -235,7 +235,7 @@ fn takes_no_unreadable<R: Records>(rt: &impl Abort, beta: &mut Station<R>) {
 fn what_cannot_be_read_is_no_arrival(rt: HostRuntime) {
     let mut beta = new_beta(&rt, rt.alloc());
     takes_no_unreadable(&rt, &mut beta);
-    let _ = failures_at_end(beta);
+    assert!(rt; failures_at_end(beta) == 0);
 }
 
 #[test]

@@ -149,8 +149,8 @@ fn one_order_is_accepted_and_one_is_rejected(rt: HostRuntime) {
     travels(&rt, rt.alloc(), &mut alpha, &mut beta).expect(&rt, "refused");
     let holds = holds_the_accepted(&mut beta).expect(&rt, "no memory");
     assert!(rt; holds && alpha.counts() == NOTHING && beta.counts() == NOTHING);
-    let _ = failures_at_end(alpha);
-    let _ = failures_at_end(beta);
+    assert!(rt; failures_at_end(alpha) == 0);
+    assert!(rt; failures_at_end(beta) == 0);
 }
 
 /// How many calls of its records a station makes on that way, at most.
@@ -212,6 +212,6 @@ fn four_hundred_orders_are_settled_by_one_reply(rt: HostRuntime) {
     let mut alpha = new_alpha(&rt, rt.alloc());
     let mut beta = new_beta(&rt, rt.alloc());
     travel(&rt, rt.alloc(), &mut alpha, &mut beta).expect(&rt, "refused");
-    let _ = failures_at_end(alpha);
-    let _ = failures_at_end(beta);
+    assert!(rt; failures_at_end(alpha) == 0);
+    assert!(rt; failures_at_end(beta) == 0);
 }

@@ -78,14 +78,14 @@ fn stays_empty<R: Records>(rt: &impl Abort, station: &mut Station<R>) -> Result<
 fn over_records_that_hold_nothing_a_station_is_empty(rt: HostRuntime) {
     let mut station = new_alpha(&rt, rt.alloc());
     stays_empty(&rt, &mut station).expect(&rt, "refused");
-    let _ = failures_at_end(station);
+    assert!(rt; failures_at_end(station) == 0);
 }
 
 #[test]
 fn over_records_that_may_fail_a_station_is_empty(rt: HostRuntime) {
     let mut station = failing_alpha(&rt, rt.alloc(), 100);
     is_empty(&rt, &mut station).expect(&rt, "refused");
-    let _ = failures_at_end(station);
+    assert!(rt; failures_at_end(station) == 0);
 }
 
 /// Whether prepared bytes aren't submitted, since the records fail.
@@ -131,5 +131,5 @@ fn stays_as_it_was<R: Records>(
 fn a_third_commit_that_fails_leaves_the_station_as_it_was(rt: HostRuntime) {
     let mut station = failing_alpha(&rt, rt.alloc(), 3);
     stays_as_it_was(&rt, rt.alloc(), &mut station).expect(&rt, "refused");
-    let _ = failures_at_end(station);
+    assert!(rt; failures_at_end(station) == 1);
 }

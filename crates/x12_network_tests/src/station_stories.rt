@@ -183,12 +183,12 @@ impl Receiver {
 pub(crate) fn tell_alpha(rt: &impl Abort, alloc: Global, sender: Sender) {
     let mut alpha = new_alpha(rt, alloc);
     sender.tell(rt, alloc, &mut alpha).expect(rt, "refused");
-    let _ = failures_at_end(alpha);
+    assert!(rt; failures_at_end(alpha) == 0);
 }
 
 /// Does it at a new station of BETA.
 pub(crate) fn tell_beta(rt: &impl Abort, alloc: Global, receiver: Receiver) {
     let mut beta = new_beta(rt, alloc);
     receiver.tell(rt, alloc, &mut beta).expect(rt, "refused");
-    let _ = failures_at_end(beta);
+    assert!(rt; failures_at_end(beta) == 0);
 }

@@ -4,7 +4,7 @@ use crate::fixture::{ALPHA, BETA, GAMMA, HUB, OTHER};
 use crate::hub_fixture::{hub_of, new_hub};
 use crate::world_fixture::{Line, half_past_nine, refuses};
 use crate::world_nodes::{
-    Back, Place, TWO, TWO_AT_TWO_HUBS, end, founded, made_none, made_of, stations_of,
+    Back, Place, TWO, TWO_AT_TWO_HUBS, end, founded, made_none, made_of, make_none, stations_of,
 };
 use std::alloc::Global;
 use std::process::Abort;
@@ -13,18 +13,6 @@ use x12_envelopes::Party;
 use x12_hub::{Hub, HubRecords};
 use x12_station::Records;
 use x12_world::{SECOND_HUB_NODE, World};
-
-/// Whether a new hub makes no network with these, and all come back: a new second hub of this party, if
-/// there is one, and new stations.
-fn make_none(rt: &impl Abort, alloc: Global, second: Option<Party>, places: &[Place]) -> bool {
-    let (stations, new) = (places.len(), places.len());
-    let back = Back {
-        second,
-        stations,
-        new,
-    };
-    made_none(rt, made_of(rt, alloc, second, places), back)
-}
 
 #[test]
 fn two_hubs_of_one_party_make_no_network(rt: HostRuntime) {

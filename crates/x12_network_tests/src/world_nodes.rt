@@ -132,6 +132,23 @@ pub(crate) fn made_none<R: Records + Drop, H: HubRecords + Drop>(
     }
 }
 
+/// Whether a new hub makes no network with these, and all come back: a new second hub of this party, if
+/// there is one, and new stations.
+pub(crate) fn make_none(
+    rt: &impl Abort,
+    alloc: Global,
+    second: Option<Party>,
+    places: &[Place],
+) -> bool {
+    let (stations, new) = (places.len(), places.len());
+    let back = Back {
+        second,
+        stations,
+        new,
+    };
+    made_none(rt, made_of(rt, alloc, second, places), back)
+}
+
 /// The network of a new hub, and new stations of ALPHA, at node 1, and BETA, at node 2.
 pub(crate) fn network(rt: &impl Abort, alloc: Global) -> Net {
     founded(rt, made_of(rt, alloc, None, &TWO))

@@ -7,7 +7,9 @@ use crate::two_hubs_founding::asked;
 use crate::world_fixture::{
     Line, Told, carries, events, fares, half_past_nine, plays, refuses_all,
 };
-use crate::world_nodes::{Back, Place, TWO, end, founded, made_none, made_of, stations_of};
+use crate::world_nodes::{
+    Back, Place, TWO, end, founded, made_none, made_of, make_none, stations_of,
+};
 use crate::world_tales::{Tale, tell_network};
 use std::alloc::Global;
 use std::process::Abort;
@@ -80,7 +82,7 @@ fn a_refused_event_takes_no_number(rt: HostRuntime) -> Result<(), Fail> {
     tell_network(&rt, rt.alloc(), Tale::TakesNoNumber)
 }
 
-/// A run that stops_at_a_refusal at its third event.
+/// A run that stops at its third event.
 const STOPS: [Told; 4] = [
     (Line::Enrol(ALPHA, 1), NOTHING),
     (Line::Prepared(1, ORDER), NOTHING),
@@ -109,20 +111,9 @@ fn a_run_stops_at_the_first_refusal(rt: HostRuntime) -> Result<(), Fail> {
     tell_network(&rt, rt.alloc(), Tale::StopsAtARefusal)
 }
 
-/// Whether a new hub makes no network with these new stations, and all come back.
-fn make_none(rt: &impl Abort, alloc: Global, places: &[Place]) -> bool {
-    let (stations, new) = (places.len(), places.len());
-    let back = Back {
-        second: None,
-        stations,
-        new,
-    };
-    made_none(rt, made_of(rt, alloc, None, places), back)
-}
-
 #[test]
 fn no_stations_make_no_network(rt: HostRuntime) {
-    assert!(rt; make_none(&rt, rt.alloc(), &[]));
+    assert!(rt; make_none(&rt, rt.alloc(), None, &[]));
 }
 
 /// So many parties at HUB.
@@ -141,7 +132,7 @@ fn sixteen_stations_make_a_network_and_seventeen_none(rt: HostRuntime) {
     let alloc = rt.alloc();
     let made = made_of(&rt, alloc, None, &many(&rt, alloc, 16));
     end(&rt, founded(&rt, made));
-    assert!(rt; make_none(&rt, alloc, &many(&rt, alloc, 17)));
+    assert!(rt; make_none(&rt, alloc, None, &many(&rt, alloc, 17)));
 }
 
 #[test]
@@ -149,7 +140,7 @@ fn two_nodes_of_one_party_make_no_network(rt: HostRuntime) {
     let [alpha, beta] = TWO;
     for me in [ALPHA, HUB] {
         let places = [alpha, beta, (me, HUB, None)];
-        assert!(rt; make_none(&rt, rt.alloc(), &places), "{me:?}");
+        assert!(rt; make_none(&rt, rt.alloc(), None, &places), "{me:?}");
     }
 }
 
@@ -157,7 +148,7 @@ fn two_nodes_of_one_party_make_no_network(rt: HostRuntime) {
 fn a_station_of_another_hub_makes_no_network(rt: HostRuntime) {
     let [alpha, beta] = TWO;
     let places = [alpha, beta, (GAMMA, BETA, None)];
-    assert!(rt; make_none(&rt, rt.alloc(), &places));
+    assert!(rt; make_none(&rt, rt.alloc(), None, &places));
 }
 
 /// Stations, of which the last one was told the time.
