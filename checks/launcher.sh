@@ -82,5 +82,14 @@ mkdir "$dir/link"
 ln -s "$dir/top/van" "$dir/link/van"
 from=link ends 'a link leads to it' 7 1 "$word two words: input"
 
+# The program is told that it is van, whatever its file's name: bash in its place says by what name it was called.
+cp "$(command -v bash)" "$dir/top/crates/mailbox/out/mailbox"
+if [[ $("$dir/top/van" run 2>&1) == van:* ]]; then
+  passed=$((passed + 1))
+else
+  failed=$((failed + 1))
+  echo "van: the program of mailboxes has another name"
+fi
+
 echo "$passed passed, $failed failed"
 [ "$failed" -eq 0 ]
