@@ -28,7 +28,7 @@ from crates import processors
 from fuzz_inputs import script, transmission
 from fuzz_laws import Broken, try_script, try_transmission
 
-ROUNDS = 400
+ROUNDS, BATCH = 400, 16
 
 
 def tried(seed, number, room):
@@ -61,7 +61,7 @@ def main():
     passed, broken, number = 0, [], 0
     with ThreadPoolExecutor(processors()) as lanes:
         while number < ROUNDS if words.minutes is None else time.monotonic() < until:
-            some = range(number, number + 4 * processors()) if words.only is None else [words.only]
+            some = range(number, number + BATCH) if words.only is None else [words.only]
             told = list(lanes.map(lambda it: tried(words.seed, it, room), some))
             broken += [it for it in told if it]
             passed += told.count(None)
