@@ -9,7 +9,7 @@ use Rattle.x12_spool.specs.declared.node.Node.{Ghosts}
 use Rattle.x12_spool.specs.declared.spool.Waiting.{Waiting}
 use Rattle.x12_spool.specs.declared.spool.Word.TheVariants.{Taken}
 use Rattle.x12_spool.specs.Deed.{File, Deed, AddsDeeds, Lists, Reads, PassesOver, Removes, file_view}
-use Rattle.x12_spool.specs.Turn.{Does, word_for_hub, TakesOne, MayTakeOne, TakesAll, TakesSome, TakesRead, StopsRead, TakesFile, StopsIn, TakesFiles, StopsInFiles, TakesListed, StopsInListed}
+use Rattle.x12_spool.specs.Turn.{Does, word_for_hub, TakesOne, MayTakeOne, TakesAll, TakesSome, TakesRead, StopsRead, IsToRead, TakesFile, StopsIn, TakesFiles, StopsInFiles, TakesListed, StopsInListed}
 use Rattle.x12_spool.proofs.DeedLemmas.{adds_none, adds_on, adds_same, parted}
 
 module _ {N : Type 0} (node : Ghosts N) where
@@ -84,17 +84,17 @@ module _ {N : Type 0} (node : Ghosts N) (f : File) where
   stops_first a b old same = ([], inl (refl, refl), same)
 
   -- a file that was read
-  pub takes_content : (a b c : Option (List Deed)) (bytes : Bytes) (old new : N) → AddsDeeds a b (Reads f.name bytes ∷ []) → Does b c (TakesRead node f bytes old new) → Does a c (TakesFile node f old new)
-  takes_content a b c bytes old new read did =
-      (Reads f.name bytes ∷ did.0, inl (record { bytes = bytes; does = did.0; took = did.1; deeds_are = refl }), adds_on a b c (Reads f.name bytes ∷ []) did.0 read did.2)
+  pub takes_content : IsToRead f → (a b c : Option (List Deed)) (bytes : Bytes) (old new : N) → AddsDeeds a b (Reads f.name bytes ∷ []) → Does b c (TakesRead node f bytes old new) → Does a c (TakesFile node f old new)
+  takes_content is_to_read a b c bytes old new read did =
+      (Reads f.name bytes ∷ did.0, inl (record { is_to_read = is_to_read; bytes = bytes; does = did.0; took = did.1; deeds_are = refl }), adds_on a b c (Reads f.name bytes ∷ []) did.0 read did.2)
 
-  pub stops_content : (a b c : Option (List Deed)) (bytes : Bytes) (old new : N) → AddsDeeds a b (Reads f.name bytes ∷ []) → Does b c (StopsRead node f bytes old new) → Does a c (StopsIn node f old new)
-  stops_content a b c bytes old new read did =
-      (Reads f.name bytes ∷ did.0, inr (inl (record { bytes = bytes; does = did.0; stopped = did.1; deeds_are = refl })), adds_on a b c (Reads f.name bytes ∷ []) did.0 read did.2)
+  pub stops_content : IsToRead f → (a b c : Option (List Deed)) (bytes : Bytes) (old new : N) → AddsDeeds a b (Reads f.name bytes ∷ []) → Does b c (StopsRead node f bytes old new) → Does a c (StopsIn node f old new)
+  stops_content is_to_read a b c bytes old new read did =
+      (Reads f.name bytes ∷ did.0, inr (inl (record { is_to_read = is_to_read; bytes = bytes; does = did.0; stopped = did.1; deeds_are = refl })), adds_on a b c (Reads f.name bytes ∷ []) did.0 read did.2)
 
   -- one that can't be read
-  pub passes_over : (a b : Option (List Deed)) (old : N) → AddsDeeds a b (PassesOver f.name ∷ []) → Does a b (TakesFile node f old old)
-  passes_over a b old did = (PassesOver f.name ∷ [], inr (inl (refl, refl)), did)
+  pub passes_over : IsToRead f → (a b : Option (List Deed)) (old : N) → AddsDeeds a b (PassesOver f.name ∷ []) → Does a b (TakesFile node f old old)
+  passes_over is_to_read a b old did = (PassesOver f.name ∷ [], inr (inl (record { is_to_read = is_to_read; same = refl; deeds_are = refl })), did)
 
   -- the word that an item was taken
   pub hears : (a b : Option (List Deed)) (item : ℕ) (old new : N) → f.word ≡ Taken item → node.frees old new item → AddsDeeds a b (Removes f.name ∷ []) → Does a b (TakesFile node f old new)

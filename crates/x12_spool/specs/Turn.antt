@@ -1,5 +1,5 @@
 -- What a turn makes a node do, and what it does in the folders.
-use Rattle.std.specs.Prelude.{◌≡◌, ◌⊎◌, ◌++◌, ◌∷◌, [], List, Option, map, ℕ}
+use Rattle.std.specs.Prelude.{◌≡◌, ◌≢◌, ◌⊎◌, ◌++◌, ◌∷◌, [], List, Option, map, ℕ}
 use Rattle.x12_envelopes.specs.Transmission.{AreSlices}
 use Rattle.x12_profile.specs.Interchange.{Bytes}
 use Rattle.x12_spool.specs.declared.node.Node.{Ghosts}
@@ -17,6 +17,10 @@ abbrev pub word_for_hub : Word → List Deed
 word_for_hub Plain = []
 word_for_hub (Item item) = Confirms item ∷ []
 word_for_hub (Taken item) = []
+
+-- the name of a file says of no item that it was taken: so the file is to be read
+abbrev pub IsToRead : File → Type 0
+IsToRead f = (item : ℕ) → f.word ≢ Taken item
 
 module _ {N : Type 0} (node : Ghosts N) where
   -- an interchange is taken, and what the node sends is put where it is taken on
@@ -94,18 +98,26 @@ module _ {N : Type 0} (node : Ghosts N) where
 
   -- a file is read, and taken so
   pub record TakesContent (f : File) (old new : N) (deeds : List Deed) : Type 0 where
+    pub is_to_read : IsToRead f
     pub bytes : Bytes
     pub does : List Deed
     pub took : TakesRead f bytes old new does
     pub deeds_are : deeds ≡ Reads f.name bytes ∷ does
 
+  -- a file can't be read, and stays where it is
+  pub record PassesFile (f : File) (old new : N) (deeds : List Deed) : Type 0 where
+    pub is_to_read : IsToRead f
+    pub same : new ≡ old
+    pub deeds_are : deeds ≡ PassesOver f.name ∷ []
+
   -- a file that came is taken; or it can't be read, and stays where it is; or its name is heard
   abbrev pub TakesFile : File → N → N → List Deed → Type 0
   TakesFile f old new deeds =
-      TakesContent f old new deeds ⊎ (((new ≡ old) × (deeds ≡ PassesOver f.name ∷ [])) ⊎ HearsTaken f old new deeds)
+      TakesContent f old new deeds ⊎ (PassesFile f old new deeds ⊎ HearsTaken f old new deeds)
 
   -- it stopped in a file that was read
   pub record StopsContent (f : File) (old new : N) (deeds : List Deed) : Type 0 where
+    pub is_to_read : IsToRead f
     pub bytes : Bytes
     pub does : List Deed
     pub stopped : StopsRead f bytes old new does
