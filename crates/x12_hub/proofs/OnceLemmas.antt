@@ -62,6 +62,13 @@ takes_one h node item is = by (list_any (λ c. c.0 == item) (collect h node))
     by true = record { once = is.once; count = is.count }
     by false = is
 
+keeps_at_taking : (h : Hub) (node item : ℕ) → StaysDecided h (taken h node item)
+keeps_at_taking h node item = by (list_any (λ c. c.0 == item) (collect h node))
+  where
+    by : (t : Bool) → StaysDecided h (if t then record h { waiting = filter (λ i. not (i == item)) h.waiting } else h)
+    by true = λ b o was. was
+    by false = λ b o was. was
+
 pub hub_decides_once : HubDecidesOnce
 hub_decides_once = record {
   new = λ me. record { once = tt; count = refl };
@@ -69,6 +76,9 @@ hub_decides_once = record {
   takes = takes_one;
   enrols = λ h party node is. record { once = is.once; count = is.count };
   dismisses = λ h party is. record { once = is.once; count = is.count };
-  keeps = λ p h at b step e. let d = any_deposit p h at b step e in d.stays;
   answers = λ p h at b step e. let d = any_deposit p h at b step e in d.answers;
+  keeps = λ p h at b step e. let d = any_deposit p h at b step e in d.stays;
+  keeps_at_taking = keeps_at_taking;
+  keeps_at_enrolling = λ h party node b o was. was;
+  keeps_at_dismissing = λ h party b o was. was;
 }

@@ -31,10 +31,13 @@ pub record HubDecidesOnce : Type 0 where
   pub takes : (h : Hub) (node item : ℕ) → IsCounted h → IsCounted (taken h node item)
   pub enrols : (h : Hub) (party : Party) (node : ℕ) → IsCounted h → IsCounted (enrolled h party node)
   pub dismisses : (h : Hub) (party : Party) → IsCounted h → IsCounted (dismissed h party)
-  -- a deposit's outcome is what the hub then says of the bytes, and nothing else changes its outcome
-  pub keeps :
-      (p : Profile) (h : Hub) (at : Moment) (b : Bytes) (step : HubStep) →
-      deposit p h at b ≡ Some step → StaysDecided h step.hub
+  -- a deposit's outcome is what the hub then says of the bytes; what it decided stays, whatever it does
   pub answers :
       (p : Profile) (h : Hub) (at : Moment) (b : Bytes) (step : HubStep) →
       deposit p h at b ≡ Some step → decided step.hub.decisions b ≡ Some step.outcome
+  pub keeps :
+      (p : Profile) (h : Hub) (at : Moment) (b : Bytes) (step : HubStep) →
+      deposit p h at b ≡ Some step → StaysDecided h step.hub
+  pub keeps_at_taking : (h : Hub) (node item : ℕ) → StaysDecided h (taken h node item)
+  pub keeps_at_enrolling : (h : Hub) (party : Party) (node : ℕ) → StaysDecided h (enrolled h party node)
+  pub keeps_at_dismissing : (h : Hub) (party : Party) → StaysDecided h (dismissed h party)
