@@ -24,7 +24,7 @@ use x12_station::{Records, Station};
 
 /// What a settled network was made of, without locks and logs.
 pub struct Unlocked<R: Records, H: HubRecords> {
-    /// The hub.
+    /// The hubs, one or two, in the order of their numbers.
     pub hubs: Vec<Hub<H>>,
     /// The stations, in the order of their numbers.
     pub stations: Vec<Station<R>>,

@@ -130,7 +130,7 @@ module _ (p : Profile) where
   due_at s now =
       filter (λ x. nat_le (schedule_of s.sendings (p.number x)).due now) (open_submissions s)
 
-  -- a tick changes the schedules alone
+  -- a tick changes the last tick and the schedules alone
   abbrev pub tick_at : Station → ℕ → StationStep
   tick_at s now = record {
     station = record s { tick = now; sendings = map (sent_if_due now) s.sendings };
