@@ -1,4 +1,5 @@
-use Rattle.std.proofs.Common.{◌≡◌, ◌==◌, ◌∙◌, false, inl, refl, subst, sym, true}
+use Rattle.std.proofs.Common.{◌≡◌, ◌==◌, ◌∙◌, false, inl, refl, subst, sym, true, arith}
+use Rattle.std.proofs.lemmas.Grind.{common_steps}
 use Rattle.std.specs.List.{Contains, list_any}
 use Rattle.x12_links.specs.Worker.{senders_of}
 use Rattle.x12_links.proofs.NetLemmas.{connected_more, is_sender_of, isnt_sender_of, way_of}
@@ -18,3 +19,6 @@ returns-clause-connected g c =
     (record { link = did.link; inlet = did.inlet; one = did.one; way_is = way_of c.in_ok-link.link.way c.args.way c.in_ok-link.inlet.from did.way.0 did.way.2; plan_is = did.way.1 })
     (λ has. isnt_sender_of c.args.inlets.now.items c.args.way.from none (subst (Contains (senders_of c.args.inlets.now.items)) did.way.2 has))
     c.in_ok-push.ensures.items c.in_ok-push-2.ensures.items
+
+pub returns-clause-opened : goal.returns-clause-opened
+returns-clause-opened g c = grind (arith, common_steps)

@@ -1,4 +1,5 @@
-use Rattle.std.proofs.Common.{◌∙◌, ◌++◌, refl, ap, ap₂, sym, subst, map, take, get_or, ℕ}
+use Rattle.std.proofs.Common.{◌∙◌, ◌++◌, refl, ap, ap₂, sym, subst, map, take, get_or, ℕ, arith}
+use Rattle.std.proofs.lemmas.Grind.{common_steps}
 use Rattle.std.specs.Prelude.{option_to_list, Contains}
 use Rattle.x12_outbound.specs.Ledger.{LedgerRow}
 use Rattle.x12_station.specs.Closed.{next_closed, HoldsClosed, above_entries}
@@ -57,3 +58,6 @@ loop-icn-preserved g c =
 
 pub returns-clause-closed : goal.returns-clause-closed
 returns-clause-closed g c = closed_beside_is c.args.ledger.now.holds c.loop-icn.closed.holds c.loop-icn.invariant.me c.loop-icn.invariant.beside
+
+pub returns-clause-held : goal.returns-clause-held
+returns-clause-held g c = grind (arith, common_steps)

@@ -1,4 +1,5 @@
 use Rattle.std.proofs.Common.{◌∙◌, ◌++◌, ◌∷◌, [], ap₂, sym, arith}
+use Rattle.std.proofs.lemmas.Grind.{common_steps}
 use Rattle.x12_station.specs.Ordering.{order_view}
 use Rattle.x12_station.specs.working.Heading.{set_number}
 use Rattle.x12_station.proofs.OrderingLemmas.{numbered_more}
@@ -12,3 +13,6 @@ loop-body-preserved c =
       numbers = c.in_ok-push.ensures.items ∙ ap₂ (λ a z. a ++ z ∷ []) so_far.numbers c.zero_padded.ensures.padded
           ∙ sym (numbered_more order_view set_number c.args.orders.now c.loop-body._body-index c.loop-body.place c._body-item.result c.loop-body-test.true c._body-item.is so_far.place);
     }
+
+pub returns : goal.returns
+returns c = grind (arith, common_steps)

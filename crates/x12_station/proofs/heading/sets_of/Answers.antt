@@ -1,4 +1,5 @@
 use Rattle.std.proofs.Common.{ℕ, List, ◌≡◌, ◌+◌, ◌<◌, ◌∷◌, [], ◌∙◌, ap, refl, length, map, codes, get_or, arith}
+use Rattle.std.proofs.lemmas.Grind.{common_steps}
 use Rattle.std.specs.List.{enumerate_from}
 use Rattle.std.proofs.lemmas.List.{get_or-map, length-map}
 use Rattle.std.proofs.lemmas.List.FromFn.{get_or-enumerate_from, length-enumerate_from}
@@ -32,3 +33,6 @@ loop-index-preserved c =
     let written : List ℕ → WrittenSet = λ number. record { header = codes "ST" ∷ codes "850" ∷ number ∷ []; segments = order_view body } in
     one_more set_written order_view order_set c.loop-index.sets.items c.push.new.self.items c.args.orders.now i (i + 1) body c.in_ok-set_of.field-0
     c.loop-index-test.true c.index-orders-index.is refl c.in_ok-push.ensures.items (c.in_ok-set_of.ensures ∙ ap written (number_is _)) c.loop-index.invariant
+
+pub returns : goal.returns
+returns c = grind (arith, common_steps)

@@ -1,4 +1,5 @@
 use Rattle.std.proofs.Common.{arith}
+use Rattle.std.proofs.lemmas.Grind.{common_steps}
 use Rattle.x12_outbound.specs.Entry.{set_row}
 use Rattle.x12_station.specs.Ordering.{order_view}
 use Rattle.x12_station.specs.working.Orders.{pending_order}
@@ -13,3 +14,6 @@ loop-body-preserved c =
       sets = one_more set_row order_view pending_order c.loop-body.sets.items c.push.new.self.items c.args.orders.now c.loop-body._body-index c.loop-body.place c._body-item.result c.set_of_order.result
           c.loop-body-test.true c._body-item.is so_far.place c.in_ok-push.ensures.items (c.set_of_order.ensures (order_view c._body-item.result)) so_far.sets;
     }
+
+pub returns : goal.returns
+returns c = grind (arith, common_steps)

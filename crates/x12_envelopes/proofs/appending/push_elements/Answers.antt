@@ -1,0 +1,12 @@
+use Rattle.std.proofs.Common.{arith}
+use Rattle.std.proofs.lemmas.Grind.{common_steps}
+use Rattle.x12_envelopes.proofs.appending.push_elements.Goals as goal
+
+pub loop-element-preserved : goal.loop-element-preserved
+loop-element-preserved c = grind (arith, common_steps)
+
+pub returns-clause-written : goal.returns-clause-written
+returns-clause-written c = grind (arith, common_steps)
+
+pub returns-clause-front : goal.returns-clause-front
+returns-clause-front c = grind (arith, common_steps)
