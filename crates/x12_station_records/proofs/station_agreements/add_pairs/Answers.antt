@@ -1,4 +1,5 @@
-use Rattle.std.proofs.Common.{◌∙◌, ◌+◌, refl, sym, subst, take, get_or}
+use Rattle.std.proofs.Common.{◌∙◌, ◌+◌, refl, sym, subst, take, get_or, arith}
+use Rattle.std.proofs.lemmas.Grind.{common_steps}
 use Rattle.sqlite.specs.Held.{state}
 use Rattle.x12_station_records.proofs.StationFiledLemmas.{one_more_taken}
 use Rattle.x12_station_records.proofs.StationOnceLemmas.{and_pair}
@@ -23,3 +24,6 @@ loop-i-preserved g c =
       goes_both (λ to. AddsPairs partner from before to) at.next (λ to. AddsPair partner before k at.next to) to (λ to. AddsPairs partner from (take (at.i + 1) items) to) to a b d
           (λ first second. subst (λ ps. AddsPairs partner from ps to a d) (sym is) (and_pair a b d partner before k from at.next to first second)) at.invariant.1 c.in_ok-next.ensures.part,
     )
+
+pub returns-clause-part : goal.returns-clause-part
+returns-clause-part g c = grind (arith, common_steps)

@@ -1,4 +1,5 @@
-use Rattle.std.proofs.Common.{ap, map, subst, sym}
+use Rattle.std.proofs.Common.{ap, map, subst, sym, arith}
+use Rattle.std.proofs.lemmas.Grind.{common_steps}
 use Rattle.x12_judge.specs.Agreement.{agreement_view}
 use Rattle.x12_station_records.proofs.StationAgreedLemmas.{kept_none}
 use Rattle.x12_station_records.proofs.StationAgreedTaken.{one_more_kept}
@@ -27,3 +28,9 @@ pub returns-in_err-pair-clause-taken : goal.returns-in_err-pair-clause-taken
 returns-in_err-pair-clause-taken c =
     rows_failed _ _ _ c.in_err-pair.field-0.0 _ c.from_residual-in_err-pair.result c.from_residual-in_err-pair.ensures.1 (λ f is memory. is ∙ memory) c.in_err-pair.ensures.taken
     (λ h. holds_next HasPair c.args.rows.now c.loop-row.row-index _ c.row-item.result c.loop-row-test.true (sym c.row-item.is) (c.loop-row.invariant.2 h.pairs))
+
+pub loop-row-preserved : goal.loop-row-preserved
+loop-row-preserved c = grind (arith, common_steps)
+
+pub returns-clause-agreements : goal.returns-clause-agreements
+returns-clause-agreements c = grind (arith, common_steps)

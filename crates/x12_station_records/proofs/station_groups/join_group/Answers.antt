@@ -1,4 +1,5 @@
-use Rattle.std.proofs.Common.{◌∙◌, refl}
+use Rattle.std.proofs.Common.{◌∙◌, refl, arith}
+use Rattle.std.proofs.lemmas.Grind.{common_steps}
 use Rattle.x12_station_records.proofs.StationGroupLemmas.{join_placed, join_whole}
 use Rattle.x12_station_records.proofs.station_groups.join_group.Goals as goal
 
@@ -11,3 +12,6 @@ pub returns-clause-whole : goal.returns-clause-whole
 returns-clause-whole c =
     join_whole c.args.groups.now.items c.pop.new.self.items c.push-2.new.self.items c.in-Some.group (record c.in-Some.group { sets = c.push.new.self }) c.args.placed c.in-Some.ensures.items c.in_ok-push-2.ensures.items refl refl c.in_ok-push.ensures.items
     c.requires.whole c.requires.laid
+
+pub returns-clause-ends : goal.returns-clause-ends
+returns-clause-ends c = grind (arith, common_steps)

@@ -1,4 +1,5 @@
 use Rattle.std.proofs.Common.{◌≡◌, [], drop, sym, subst, arith}
+use Rattle.std.proofs.lemmas.Grind.{common_steps}
 use Rattle.std.proofs.Math.ListN.{drop_of_length-le}
 use Rattle.std.proofs.lemmas.List.{append-nil}
 use Rattle.x12_station_records.proofs.TakesLemmas.{rows_failed, chains_next}
@@ -17,3 +18,6 @@ pub returns-in_err-last-clause-taken : goal.returns-in_err-last-clause-taken
 returns-in_err-last-clause-taken c =
     rows_failed _ _ _ c.in_err-last.field-0.0 _ c.from_residual.result c.from_residual.ensures.1 (λ f is memory. is ∙ memory) c.in_err-last.ensures.taken
     (λ h. chains_next IsArrivalRow c.loop-row.last c.args.rows.now c.loop-row.row-index _ c.row-item.result c.loop-row-test.true (sym c.row-item.is) (c.loop-row.invariant.1 h))
+
+pub loop-row-preserved : goal.loop-row-preserved
+loop-row-preserved c = grind (arith, common_steps)

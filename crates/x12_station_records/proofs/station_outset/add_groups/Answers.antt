@@ -1,8 +1,9 @@
-use Rattle.std.proofs.Common.{◌∙◌, ◌+◌, sym, subst, map, flat_map, take}
+use Rattle.std.proofs.Common.{◌∙◌, ◌+◌, sym, subst, map, flat_map, take, arith}
+use Rattle.std.proofs.lemmas.Grind.{common_steps}
 use Rattle.std.specs.List.{enumerate_from}
 use Rattle.sqlite.specs.Held.{state}
 use Rattle.x12_outbound.specs.Entry.{group_row}
-use Rattle.x12_station.specs.Stored.{rows_of_group}
+use Rattle.x12_station.specs.Stored.{rows_of_group, rows_of_entry}
 use Rattle.x12_station_records.proofs.StationAddedLemmas.{all_so_far, and_sets}
 use Rattle.x12_station_records.proofs.StationParts.{goes_both}
 use Rattle.x12_station_records.specs.StationPart.{AddsSets}
@@ -25,3 +26,7 @@ loop-i-preserved g c =
       goes_both (λ to. AddsSets from xs to) at.next (λ to. AddsSets at.next ys to) to (λ to. AddsSets from (flat_map f (enumerate_from 1 (take (at.i + 1) (map group_row items)))) to) to a b d
           (λ first second. subst (λ ts. AddsSets from ts to a d) (sym is) (and_sets a b d from at.next xs first ys to second)) at.invariant.1 c.in_ok-next.ensures.part,
     )
+
+pub returns-clause-part : goal.returns-clause-part
+unfolding rows_of_entry
+returns-clause-part g c = grind (arith, common_steps)

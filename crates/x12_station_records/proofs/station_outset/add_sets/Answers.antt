@@ -1,4 +1,5 @@
-use Rattle.std.proofs.Common.{◌∙◌, ◌+◌, sym, subst, map, take}
+use Rattle.std.proofs.Common.{◌∙◌, ◌+◌, sym, subst, map, take, arith}
+use Rattle.std.proofs.lemmas.Grind.{common_steps}
 use Rattle.std.specs.List.{enumerate_from}
 use Rattle.sqlite.specs.Held.{state}
 use Rattle.x12_outbound.specs.Entry.{group_row, set_row}
@@ -23,3 +24,6 @@ loop-i-preserved g c =
       goes_step (λ to. AddsSets c.args.at xs to) at.next (Turns (with_stored_set t) (HasNextSet at.next)) c.in_ok-add_set.field-0 (λ to. AddsSets c.args.at (map f (enumerate_from 1 (take (at.i + 1) (map set_row items)))) to) (at.next + 1) a b d
           (λ first second. subst (λ ts. AddsSets c.args.at ts (at.next + 1) a d) (sym is) (and_set a b d c.args.at at.next xs first t second)) at.invariant.1 c.in_ok-add_set.ensures.part,
     )
+
+pub returns-clause-part : goal.returns-clause-part
+returns-clause-part g c = grind (arith, common_steps)

@@ -1,4 +1,5 @@
-use Rattle.std.proofs.Common.{◌∙◌, ◌+◌, sym, subst, map, take}
+use Rattle.std.proofs.Common.{◌∙◌, ◌+◌, sym, subst, map, take, arith}
+use Rattle.std.proofs.lemmas.Grind.{common_steps}
 use Rattle.sqlite.specs.Held.{state}
 use Rattle.x12_inbound.specs.Posting.{posting_view}
 use Rattle.x12_station_records.proofs.StationFiledLemmas.{one_further, and_posting}
@@ -22,3 +23,6 @@ loop-posting-preserved g c =
       goes_step (λ to. AddsPostings from ps to) at.next (Turns (with_posting p) (HasNextPosting at.next)) c.in_ok-add_posting.field-0 (λ to. AddsPostings from (take (at.posting-index + 1) (map posting_view items)) to) (at.next + 1) a b d
           (λ first second. subst (λ ts. AddsPostings from ts (at.next + 1) a d) (sym is) (and_posting a b d from at.next ps p first second)) at.invariant.1 c.in_ok-add_posting.ensures.part,
     )
+
+pub returns-clause-part : goal.returns-clause-part
+returns-clause-part g c = grind (arith, common_steps)

@@ -1,4 +1,5 @@
-use Rattle.std.proofs.Common.{rules, true, ◌≡◌, ◌<◌, length, sym, ap, ◌∙◌}
+use Rattle.std.proofs.Common.{rules, true, ◌≡◌, ◌<◌, length, sym, ap, ◌∙◌, arith}
+use Rattle.std.proofs.lemmas.Grind.{common_steps}
 use Rattle.x12_judge.specs.Agreement.{is_same_party}
 use Rattle.x12_world.proofs.asking.place_of.Goals as goal
 use Rattle.x12_world.proofs.AskingLemmas.{found_there}
@@ -11,3 +12,9 @@ returns-then-eq-clause-there g c =
       found_there (λ s. is_same_party s.me c.args.party.now) c.args.stations.now c.loop-place.place c.index-stations-place.result c.index-stations-place.is lt
           (ap (λ p. is_same_party p c.args.party.now) (sym c.party.ensures.party) ∙ same) c.loop-place.invariant,
     )
+
+pub loop-place-preserved : goal.loop-place-preserved
+loop-place-preserved g c = grind (arith, common_steps)
+
+pub returns-clause-none : goal.returns-clause-none
+returns-clause-none g c = grind (arith, common_steps)

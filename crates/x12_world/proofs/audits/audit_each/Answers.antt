@@ -1,5 +1,6 @@
 -- One audit more.
-use Rattle.std.proofs.Common.{◌<◌, rules, get_or, length, map, sym, subst, ◌∙◌}
+use Rattle.std.proofs.Common.{◌<◌, rules, get_or, length, map, sym, subst, ◌∙◌, arith}
+use Rattle.std.proofs.lemmas.Grind.{common_steps}
 use Rattle.x12_world.specs.Asking.{states_of}
 use Rattle.x12_world.specs.Auditing.{audit_view}
 use Rattle.x12_world.specs.Listing.{IsSubmittedBy}
@@ -28,3 +29,6 @@ loop-sent-preserved g c =
           (subst (λ ss. ArePosted ss c.args.posted.now) (sym same) posted))
           (was.found w is before sent posted);
     }
+
+pub returns-clause-found : goal.returns-clause-found
+returns-clause-found g c = grind (arith, common_steps)

@@ -1,5 +1,6 @@
 -- One station more.
 use Rattle.std.proofs.Common.{◌<◌, length, length-set, map, ◌∙◌, arith}
+use Rattle.std.proofs.lemmas.Grind.{common_steps}
 use Rattle.x12_world.specs.Placing.{outgoing_view}
 use Rattle.x12_world.proofs.FailingLemmas.{counts_alike, counts_among, counts_behind, counts_handed}
 use Rattle.x12_world.proofs.AuditingLemmas.{asked_still, asked_states}
@@ -45,3 +46,6 @@ returns-in_err-push_station-clause-store g c =
     let within : c.loop-place.place < length ss = let t = c.loop-place-test.true in let n = c.len-place-end.ensures in let e = c.args.stations.now.ok.0 in let l = c.loop-place.invariant.long in omega arith in
     counts_handed c.from_residual.result c.in_err-push_station.field-0.0 _ _ c.from_residual.ensures.1
     (counts_behind _ _ _ _ c.loop-place.invariant.counts (counts_among _ ss c.loop-place.place c.index_mut.result.now c.push_station.new.station within c.index_mut.ensures.value c.in_err-push_station.ensures.store))
+
+pub returns-clause-sets : goal.returns-clause-sets
+returns-clause-sets g c = grind (arith, common_steps)
