@@ -1,4 +1,5 @@
 use Rattle.std.proofs.Common.{◌≡◌, ℕ, List, ◌||◌, take, map, bytes_eq, refl, ap, sym, ◌∙◌, arith, inl, inr}
+use Rattle.std.proofs.lemmas.Grind.{common_steps}
 use Rattle.std.proofs.lemmas.Bool.{cases_Bool}
 use Rattle.std.specs.List.{list_any}
 use Rattle.std.proofs.lemmas.List.{take-map}
@@ -44,3 +45,6 @@ loop-set-preserved c =
           c.loop-set-test.true c.set-item.is c.in_ok-push.ensures.items same so_far.verdicts;
       count = omega (arith, c.in_ok-push.ensures.len, so_far.count);
     }
+
+pub returns-clause-verdicts : goal.returns-clause-verdicts
+returns-clause-verdicts c = grind (arith, common_steps)

@@ -1,4 +1,5 @@
 use Rattle.std.proofs.Common.{◌+◌, ◌++◌, ◌∷◌, [], Option, List, drop, ◌∙◌, ap, sym, map, take, arith}
+use Rattle.std.proofs.lemmas.Grind.{common_steps}
 use Rattle.std.proofs.lemmas.List.{map-append, take_more}
 use Rattle.x12_outbound.specs.declared.evidence.Piece.{Piece}
 use Rattle.x12_outbound.specs.declared.evidence.Statement.{Statement}
@@ -37,3 +38,6 @@ pub returns-clause-found : goal.returns-clause-found
 returns-clause-found c =
     none_left (fates_in_both c.args.me.now (map row_view c.args.rows.now) (map row_view c.args.closed.now)) (fates_since c.loop-statement.settled (fates_in_both c.args.me.now (map row_view c.args.rows.now) (map row_view c.args.closed.now))) c.args.statements.now c.loop-statement.pieces.items c.loop-statement.statement-index
     (omega (arith, c.loop-statement-test.false)) c.loop-statement.invariant.found
+
+pub returns-clause-said : goal.returns-clause-said
+returns-clause-said c = grind (arith, common_steps)

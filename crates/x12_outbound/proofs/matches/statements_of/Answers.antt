@@ -1,4 +1,5 @@
-use Rattle.std.proofs.Common.{◌++◌, map, sym, ◌∙◌, take}
+use Rattle.std.proofs.Common.{◌++◌, map, sym, ◌∙◌, take, arith}
+use Rattle.std.proofs.lemmas.Grind.{common_steps}
 use Rattle.x12_acks.specs.Answer.{answer_view}
 use Rattle.x12_acks.specs.Evidence.{answer_evidence, evidence_of}
 use Rattle.x12_outbound.specs.Hubs.{hubs_of}
@@ -36,3 +37,9 @@ loop-answer-preserved c =
           ∙ sym (names_more (hubs_of p.hubs) sent p.from c.args.answers.now c.loop-answer.answer-index answer c.loop-answer-test.true c.answer-item.is);
       named = named_then p rows closed (subject_of (answer_view answer)) old new (answer_evidence (hubs_of p.hubs) sent p.from (answer_view answer)) before.named c.in_ok-tell_in_both.ensures;
     }
+
+pub returns-clause-evidence : goal.returns-clause-evidence
+returns-clause-evidence c = grind (arith, common_steps)
+
+pub returns-clause-names : goal.returns-clause-names
+returns-clause-names c = grind (arith, common_steps)

@@ -1,4 +1,5 @@
-use Rattle.std.proofs.Common.{Vec, Global, Option, ◌++◌, ◌∷◌, [], Some, is_some, take, ap, sym, ◌∙◌, nat_cmp}
+use Rattle.std.proofs.Common.{Vec, Global, Option, ◌++◌, ◌∷◌, [], Some, is_some, take, ap, sym, ◌∙◌, nat_cmp, arith}
+use Rattle.std.proofs.lemmas.Grind.{common_steps}
 use Rattle.std.specs.BTreeMap.{get_by}
 use Rattle.std.specs.Cmp.Lexicographic.{slice_cmp}
 use Rattle.x12_envelopes.specs.Shape.{bytes_of_set_no}
@@ -30,3 +31,6 @@ loop-index-preserved c =
           ap items w.out-is ∙ c.loop-index.invariant
           ∙ ap (λ rest. before ++ rest) (listed_more o sets at set c.loop-index-test.true c.index-sets-index.is listed (here ∙ w.if-not-contains_key.false))
     ]
+
+pub returns : goal.returns
+returns c = grind (arith, common_steps)

@@ -1,8 +1,9 @@
-use Rattle.std.proofs.Common.{◌≡◌, ◌∙◌, ap, sym, map, refl}
+use Rattle.std.proofs.Common.{◌≡◌, ◌∙◌, ap, sym, map, refl, arith}
+use Rattle.std.proofs.lemmas.Grind.{common_steps}
 use Rattle.x12_envelopes.specs.declared.shape.SetView.{SetView}
 use Rattle.x12_envelopes.specs.Shape.{set_view}
 use Rattle.x12_acks.specs.Submission.{submitted_set}
-use Rattle.x12_outbound.specs.Entry.{set_row, pending_set}
+use Rattle.x12_outbound.specs.Entry.{set_row, pending_set, pending_entry}
 use Rattle.x12_outbound.proofs.CopyLemmas.{all_made}
 use Rattle.x12_numbers.proofs.Shelf.{map_twice}
 use Rattle.x12_outbound.proofs.entry.EntryGroup.of.Goals as goal
@@ -18,3 +19,7 @@ returns c d =
     made ∙ ap (map pending) c.deref-set-items.ensures.value
     ∙ sym (map_twice pending_set (λ s. submitted_set (set_view d s)) sets) ∙ ap (map pending_set) (sym (map_twice submitted_set (set_view d) sets)) in
     rw same refl
+
+pub loop-set-preserved : goal.loop-set-preserved
+unfolding pending_entry
+loop-set-preserved c = grind (arith, common_steps)
