@@ -1,7 +1,8 @@
 use Rattle.std.proofs.Common.{map, refl, arith}
+use Rattle.std.proofs.lemmas.Grind.{common_steps}
 use Rattle.std.proofs.lemmas.List.{length-map}
 use Rattle.x12_judge.specs.Verdict.{note_view}
-use Rattle.x12_acks.specs.Reply.{note_segment}
+use Rattle.x12_acks.specs.Reply.{note_segment, set_answer}
 use Rattle.x12_acks.proofs.TextLemmas.{grows, grew}
 use Rattle.x12_acks.proofs.set_answer.push_set_answer.Goals as goal
 
@@ -18,3 +19,11 @@ returns-clause-room c =
       c.deref.ensures.len,
       c.len.ensures,
     )
+
+pub returns-clause-written : goal.returns-clause-written
+unfolding set_answer
+returns-clause-written c = grind (arith, common_steps)
+
+pub returns-clause-segments : goal.returns-clause-segments
+unfolding set_answer
+returns-clause-segments c = grind (arith, common_steps)

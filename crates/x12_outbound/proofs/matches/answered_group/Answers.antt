@@ -1,4 +1,5 @@
-use Rattle.std.proofs.Common.{get_or, sym, ◌∙◌}
+use Rattle.std.proofs.Common.{get_or, sym, ◌∙◌, arith}
+use Rattle.std.proofs.lemmas.Grind.{common_steps}
 use Rattle.std.proofs.lemmas.List.{get_or_default}
 use Rattle.x12_outbound.specs.Group.{groups_of_row}
 use Rattle.x12_outbound.specs.Matches.{group_answer_view}
@@ -35,3 +36,6 @@ returns-then-not-is_functional-clause-none c =
     let row_is = get_or_default rows c.in-Some.at c.index-rows-at.result row found.row in
     other_code c.args.parties.now rows c.requires (group_answer_view c.args.answer.now) c.in-Some.at c.in-Some.index row c.index.result.now found.row found.found row_is c.index.ensures
     (sym c.is_receiver.ensures ∙ c.if-not-is_receiver.false) (sym c.is_functional.ensures ∙ c.if-not-is_functional.true)
+
+pub returns-clause-found : goal.returns-clause-found
+returns-clause-found c = grind (arith, common_steps)

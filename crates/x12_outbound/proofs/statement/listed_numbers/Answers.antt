@@ -1,4 +1,5 @@
-use Rattle.std.proofs.Common.{ℕ, List, Some, ap, ◌∙◌, nat_cmp}
+use Rattle.std.proofs.Common.{ℕ, List, Some, ap, ◌∙◌, nat_cmp, arith}
+use Rattle.std.proofs.lemmas.Grind.{common_steps}
 use Rattle.std.specs.BTreeMap.{get_by}
 use Rattle.std.specs.Cmp.Lexicographic.{slice_cmp}
 use Rattle.std.specs.Map.{update}
@@ -15,3 +16,6 @@ loop-answer-preserved c =
     before (λ number. get_by (λ k. slice_cmp nat_cmp number k.now) c.insert.new.self) c.loop-answer.invariant
     (λ number. btree_map_updates_str c.as_bytes.result.now c.loop-answer.numbers c.insert.new.self _ c.in_ok-insert.ensures.updates number
     ∙ ap (λ bytes. update bytes_eq before bytes (Some tt) number) c.as_bytes.ensures)
+
+pub returns : goal.returns
+returns c = grind (arith, common_steps)

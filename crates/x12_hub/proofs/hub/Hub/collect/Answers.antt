@@ -1,5 +1,6 @@
 -- What is collected are the items of the mailbox, each with its bytes.
-use Rattle.std.proofs.Common.{◌≡◌, ◌∙◌, sym, ap, subst, map, ℕ, List, IfOk}
+use Rattle.std.proofs.Common.{◌≡◌, ◌∙◌, sym, ap, subst, map, ℕ, List, IfOk, arith}
+use Rattle.std.proofs.lemmas.Grind.{common_steps}
 use Rattle.x12_profile.specs.Interchange.{Bytes}
 use Rattle.x12_hub.specs.Hub.{Hub}
 use Rattle.x12_hub.specs.HubView.{HubView}
@@ -25,3 +26,6 @@ returns-in_err-items-clause-crash g c =
 pub returns-clause-crash : goal.returns-clause-crash
 returns-clause-crash g c =
     rw (← c.self.view_is) (hub_asked g.H.HubRecords _ c.self.inside.cached.me (λ d answers may. g.met.H.HubRecords.left_is_held c.with_bytes.new.records d c.with_bytes.ensures.asked.valid answers may) c.with_bytes.ensures.asked.leaves)
+
+pub returns-clause-bounded : goal.returns-clause-bounded
+returns-clause-bounded g c = grind (arith, common_steps)

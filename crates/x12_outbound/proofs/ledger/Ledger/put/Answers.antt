@@ -1,4 +1,6 @@
-use Rattle.std.proofs.Common.{◌∷◌, [], ◌++◌, List, ap, ◌∙◌}
+use Rattle.x12_outbound.specs.Ledger.{with_interchange}
+use Rattle.std.proofs.Common.{◌∷◌, [], ◌++◌, List, ap, ◌∙◌, arith}
+use Rattle.std.proofs.lemmas.Grind.{common_steps}
 use Rattle.x12_outbound.specs.declared.row.Row.{Row}
 use Rattle.x12_outbound.proofs.LedgerLemmas.{in_order_added}
 use Rattle.x12_outbound.proofs.ledger.Ledger.put.Goals as goal
@@ -14,3 +16,7 @@ invariant_of-self-2 c =
     in_order_added c.self.inside.me c.self.inside.rows.items row _
     (c.push_reserved.ensures.items ∙ ap (λ (rows : List Row). rows ++ row ∷ []) c.reserve.ensures.items)
     c.self.invariant next.sendable next.after
+
+pub returns-clause-ok : goal.returns-clause-ok
+unfolding with_interchange
+returns-clause-ok c = grind (arith, common_steps)
