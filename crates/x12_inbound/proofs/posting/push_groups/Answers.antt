@@ -1,4 +1,5 @@
 use Rattle.std.proofs.Common.{◌<◌, ◌-◌, ◌^◌, length, map, sym, subst, arith}
+use Rattle.std.proofs.lemmas.Grind.{common_steps}
 use Rattle.std.proofs.lemmas.List.{length-map}
 use Rattle.x12_judge.specs.declared.verdict.GroupVerdict.{GroupVerdict}
 use Rattle.x12_judge.specs.Verdict.{group_verdict_view, set_verdict_view}
@@ -14,3 +15,9 @@ push_group-requires c =
     (λ d. c.requires i d (omega (arith, length-map groups group_verdict_view, c.loop-group-test.true))) x in
     let here = subst (λ (g : GroupVerdict). length (map set_verdict_view g.sets.items) < 2 ^ 16 - 1) (sym c.group-item.is) few in
     omega (arith, here, length-map x.sets.items set_verdict_view)
+
+pub loop-group-preserved : goal.loop-group-preserved
+loop-group-preserved c = grind (arith, common_steps)
+
+pub returns : goal.returns
+returns c = grind (arith, common_steps)
