@@ -66,6 +66,12 @@ def copies(run):
         file.writelines(kept)
 
 
+def lanes_of_proofs(number):
+    """How many proofs run side by side on so many processors, where RT_JOBS doesn't say: of more than two, one less. The
+    longest chain of crates decides when they end, and each is dearer by what runs beside it."""
+    return number - 1 if number > 2 and not os.environ.get("RT_JOBS") else number
+
+
 class Gate:
     """A run: where it works, and what was counted so far."""
 
@@ -86,10 +92,10 @@ class Gate:
                 lines = [it for it in said if it.strip() and not WELL.search(it)]
                 self.failures += [f"failed: {name}, status {status}", *[f"  {it[:300]}" for it in lines[-AGAIN:]]]
 
-    def start(self, kind, folder, words, nice):
-        """Starts a command in a folder, and has its processor time counted."""
+    def start(self, kind, folder, words, nice, **more):
+        """Starts a command in a folder, with these variables more, and has its processor time counted."""
         timed = [sys.executable, "-B", f"{HERE}/times.py", "run", self.times, kind, *words]
-        its = {**os.environ, "GATE_RUN": self.run, "GATE_RECORD": f"{TOP}/checks/verdicts.txt"}
+        its = {**os.environ, "GATE_RUN": self.run, "GATE_RECORD": f"{TOP}/checks/verdicts.txt", **more}
         how = {"stdin": subprocess.DEVNULL, "stdout": subprocess.PIPE, "stderr": subprocess.STDOUT}
         return subprocess.Popen([*["nice", "-n", "10"] * nice, *timed], cwd=folder, env=its, text=True, errors="replace", **how)
 
@@ -97,8 +103,7 @@ class Gate:
         """Runs `rt ci`, tells what it says as it says it, and notes each library that is proved.
 
         RT_JOBS says how many proofs run side by side: by itself `rt ci` wants four times the memory that they take."""
-        os.environ["RT_JOBS"] = str(lanes)
-        running, said = self.start("-", f"{self.run}/top", ["rt", "ci"], 0), [""]
+        running, said = self.start("-", f"{self.run}/top", ["rt", "ci"], 0, RT_JOBS=str(lanes)), [""]
         for line in running.stdout:
             said.append(line.rstrip("\n"))
             found = PROVED.fullmatch(said[-1])
@@ -180,7 +185,7 @@ def main(words):
     with tempfile.TemporaryDirectory(prefix="gate-") as run:
         copies(run)
         gate = Gate(run, words)
-        if gate.whole(processors()):
+        if gate.whole(lanes_of_proofs(processors())):
             gate.leave()
         gate.tell()
         return 1 if gate.counts[1] else 0
