@@ -31,7 +31,7 @@ pub record HubDecidesOnce : Type 0 where
   pub takes : (h : Hub) (node item : ℕ) → IsCounted h → IsCounted (taken h node item)
   pub enrols : (h : Hub) (party : Party) (node : ℕ) → IsCounted h → IsCounted (enrolled h party node)
   pub dismisses : (h : Hub) (party : Party) → IsCounted h → IsCounted (dismissed h party)
-  -- a deposit's outcome is what the hub then says of the bytes; what it decided stays, whatever it does
+  -- a deposit's outcome is what the hub then says of the bytes; what is decided stays at each step
   pub answers :
       (p : Profile) (h : Hub) (at : Moment) (b : Bytes) (step : HubStep) →
       deposit p h at b ≡ Some step → decided step.hub.decisions b ≡ Some step.outcome
