@@ -13,9 +13,8 @@ use std::str;
 use x12_acks::SetKey;
 use x12_envelopes::Party;
 use x12_inbound::Posting;
-use x12_vanlab::report;
+use x12_report::{Audit, report};
 use x12_words::fate_word;
-use x12_world::Audit;
 
 /// The members of an object that say which set it is of.
 fn key_members(alloc: Global, key: &SetKey, receiver: &Party) -> Result<String, AllocError> {

@@ -11,8 +11,9 @@ use std::test::Fail;
 use x12_acks::SetKey;
 use x12_hub::HubRecords;
 use x12_outbound::Fate;
+use x12_report::Audit;
 use x12_station::Records;
-use x12_world::{Audit, HUB_NODE, Kind, Refused, SECOND_HUB_NODE, World};
+use x12_world::{HUB_NODE, Kind, Refused, SECOND_HUB_NODE, World};
 
 const NOTHING: &[(u16, Kind)] = &[];
 

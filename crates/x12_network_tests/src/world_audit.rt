@@ -10,8 +10,9 @@ use x12_acks::SetKey;
 use x12_envelopes::Party;
 use x12_hub::HubRecords;
 use x12_outbound::Fate;
+use x12_report::Audit;
 use x12_station::Records;
-use x12_world::{Audit, HUB_NODE, Kind, World};
+use x12_world::{HUB_NODE, Kind, World};
 
 /// ALPHA's interchange 1 to BETA: a group of two sets, of which the second has a wrong count, and a group of one.
 const TWO_GROUPS: &[u8] =

@@ -13,8 +13,9 @@ use std::process::Abort;
 use std::test::Fail;
 use x12_hub::{Failing as FailingHub, Hub, HubFault, HubRecords};
 use x12_outbound::Fate;
+use x12_report::Audit;
 use x12_station::{Failing, Records, Station, StationFault};
-use x12_world::{Audit, Event, NodeFault, Outcome, Refused, World};
+use x12_world::{Event, NodeFault, Outcome, Refused, World};
 
 /// A network over records each of which may fail once.
 pub(crate) type FailingNet = World<Failing<RecordsOfStation>, FailingHub<RecordsOfHub>>;

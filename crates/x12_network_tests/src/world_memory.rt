@@ -15,8 +15,9 @@ use std::test::Fail;
 use x12_envelopes::Party;
 use x12_hub::{Hub, HubRecords, MemoryHubRecords};
 use x12_outbound::Fate;
+use x12_report::Audit;
 use x12_station::{MemoryRecords, Records, Station};
-use x12_world::{Audit, Event, MemoryWorld, Outcome, Refused, World, run_in_memory};
+use x12_world::{Event, MemoryWorld, Outcome, Refused, World, run_in_memory};
 
 /// ALPHA's order comes to BETA, and BETA's reply to ALPHA.
 const STORY: [Line; 10] = [

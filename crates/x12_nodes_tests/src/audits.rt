@@ -7,8 +7,9 @@ use crate::settlements::{discard_all, end_parts};
 use std::alloc::Global;
 use std::process::Abort;
 use x12_nodes::{Pass, Settlement, Unlocked, Wire, settle};
+use x12_report::Audit;
 use x12_station::Station;
-use x12_world::{Audit, audit_all};
+use x12_world::audit_all;
 
 type TestSettlement = Settlement<RecordsOfStation, RecordsOfHub>;
 

@@ -14,7 +14,7 @@ use x12_acks::SetKey;
 use x12_core::{Ask, HUB_NODE, Kind};
 use x12_nodes::{Answer, Pass, Wire};
 use x12_outbound::Fate;
-use x12_world::Audit;
+use x12_report::Audit;
 
 const NOTHING: &[(u16, Kind)] = &[];
 

@@ -4,8 +4,9 @@ use crate::founding::{close, end_nodes};
 use std::alloc::Global;
 use x12_hub::HubRecords;
 use x12_nodes::{NodeCell, Parts, Pass, Settlement, Unlocked};
+use x12_report::Audit;
 use x12_station::{Records, Station};
-use x12_world::{Audit, Refused, audit_all};
+use x12_world::{Refused, audit_all};
 
 /// Lets passes go.
 pub(crate) fn discard(mut passes: Vec<Pass>) {

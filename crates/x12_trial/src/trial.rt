@@ -18,8 +18,8 @@ use x12_envelopes::Moment;
 use x12_hub::HubRecords;
 use x12_network::{NetFault, Network, RunPlan, Tally, run_network};
 use x12_nodes::{Check, Node, Pass, SettleFault, Settlement, Wire, settle};
+use x12_report::report;
 use x12_station::Records;
-use x12_vanlab::report;
 
 /// How a trial ended.
 #[derive(Clone, Copy)]

@@ -10,9 +10,9 @@ use x12_links::FaultPlan;
 use x12_network::{NetFault, Network, RunPlan, Tally, run_network};
 use x12_nodes::{Answer, Gate, Node, Pass, Receipt, SettleFault, Wire, settle};
 use x12_outbound::Fate;
+use x12_report::Audit;
 use x12_station::MemoryRecords;
 use x12_trial::{InMemory, audits_of, end_parts, found, jobs_of_nodes, moment, parties, sites};
-use x12_world::Audit;
 
 /// How many stations a network has, and how many nodes with one hub.
 const STATIONS: u16 = 2;

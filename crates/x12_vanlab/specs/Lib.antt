@@ -1,2 +1,1 @@
-pub mod Reporting
 pub mod Script

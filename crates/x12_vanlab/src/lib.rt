@@ -2,7 +2,6 @@
 //! report of what everybody holds.
 #![tactic(auto)]
 
-mod reporting;
 mod script;
 mod script_action;
 mod script_bad_line;
@@ -21,6 +20,5 @@ mod script_stop;
 mod script_telling;
 mod script_word;
 
-pub use reporting::report;
 pub use script::run_script;
 pub use script_status::ScriptStatus;

@@ -4,10 +4,9 @@ ghost use Rattle.std.specs.Prelude.{◌≡◌, ◌≢◌, ◌++◌, ◌||◌, if
 ghost use Rattle.std.specs.List.{list_any};
 ghost use Rattle.x12_vanlab.specs.declared.script_status.ScriptStatus.TheVariants.{BadLine};
 ghost use Rattle.x12_vanlab.specs.declared.script_status.ScriptStatus.TheVariants.{BadReport, Done};
-ghost use Rattle.x12_vanlab.specs.Reporting.{audit_is_bad, report_line};
+ghost use Rattle.x12_report.specs.Reporting.{audit_is_bad, report_line};
 ghost use Rattle.x12_vanlab.specs.Script.{Grows};
 
-use crate::reporting::{is_bad, report};
 use crate::script_fault::LineFault;
 use crate::script_line::{EventLine, Line, SetPlace};
 use crate::script_lines::Lines;
@@ -25,8 +24,9 @@ use std::io::Write;
 use x12_acks::SetKey;
 use x12_answering::write_piece;
 use x12_hub::HubFault;
+use x12_report::{Audit, is_bad, report};
 use x12_station::StationFault;
-use x12_world::{Audit, NodeFault, Outcome, PacketName, Refused};
+use x12_world::{NodeFault, Outcome, PacketName, Refused};
 
 /// Whether memory was missing.
 fn is_memory(refused: &Refused) -> bool {

@@ -15,7 +15,8 @@ use Rattle.x12_station.proofs.ListLemmas.{contains_map, contains_flat_map}
 use Rattle.x12_numbers.proofs.Shelf.{bytes_eq_itself, found_passes, some_inj}
 use Rattle.x12_outbound.specs.Fate.{ended}
 use Rattle.x12_outbound.specs.declared.fate.Fate.TheVariants.{Pending}
-use Rattle.x12_world.specs.Audit.{Audit, KeysTell, NoAuditIsBad, audit, audit_of, postings_are_bad, station_named, stations_of}
+use Rattle.x12_world.specs.Audit.{Audit, KeysTell, NoAuditIsBad, audit, audit_of, station_named, stations_of}
+use Rattle.x12_report.specs.Audit.{postings_are_bad}
 use Rattle.x12_world.specs.Exchange.{Exchange, Judged, Learnt, Refines, Standing, Unknown, Waiting, fate_of, posted_of, result_of}
 use Rattle.x12_world.specs.Network.{Network}
 use Rattle.x12_world.specs.World.{World, StationAt}

@@ -32,7 +32,7 @@ use Rattle.x12_station.specs.History.{postings}
 use Rattle.x12_station.specs.Seen.{StationView}
 use Rattle.x12_station.specs.Station.{Station}
 use Rattle.x12_world.specs.Asking.{states_of}
-use Rattle.x12_world.specs.Audit.{postings_are_bad}
+use Rattle.x12_report.specs.Audit.{postings_are_bad}
 use Rattle.x12_world.specs.Auditing.{bytes_of_posting, first_bytes, first_under, found_under, posted_bytes}
 use Rattle.x12_world.specs.Posted.{Posted, set_key_order, bytes_found, bytes_under, ArePosted, IsByKey, IsOneMore}
 use Rattle.x12_world.proofs.AskingLemmas.{state_there}

@@ -14,7 +14,7 @@ use Rattle.x12_world.specs.Held.{HoldsAs}
 use Rattle.x12_station.specs.StationStep.{fate_by_key}
 use Rattle.x12_acks.specs.Submission.{TransactionSetKey}
 use Rattle.x12_outbound.specs.declared.fate.Fate.{Fate}
-use Rattle.x12_outbound.specs.declared.fate.Fate.TheVariants.{Pending, Accepted, Rejected}
+use Rattle.x12_report.specs.Audit.{postings_are_bad}
 
 -- what is found of one submitted set
 pub record Audit : Type 0 where
@@ -25,18 +25,6 @@ pub record Audit : Type 0 where
   pub posted : Option ℕ
   -- whether each of them has the submitted bytes
   pub intact : Bool
-
--- so many postings suit a fate: one where it is accepted, none where it is rejected, at most one
--- while it is pending
-abbrev pub count_suits : Fate → ℕ → Bool
-count_suits Accepted n = n == 1
-count_suits Rejected n = n == 0
-count_suits Pending n = nat_le n 1
-
--- the receiver is a station, and its postings don't suit the fate or aren't what was submitted
-abbrev pub postings_are_bad : Fate → Bool → Option ℕ → Bool
-postings_are_bad fate intact None = false
-postings_are_bad fate intact (Some n) = not (count_suits fate n && intact)
 
 -- the station that a node is
 abbrev pub station_in : Node → List Station

@@ -14,7 +14,7 @@ use Rattle.x12_station.specs.History.{posted_under, postings}
 use Rattle.x12_station.specs.Key.{OwnSet, own_fate, own_key, own_set}
 use Rattle.x12_station.specs.Station.{Station}
 use Rattle.x12_world.specs.Audit.{Audit, audit, stations_of}
-use Rattle.x12_world.specs.declared.audit.Audit.{Audit as CodeAudit}
+use Rattle.x12_report.specs.declared.audit.Audit.{Audit as CodeAudit}
 use Rattle.x12_world.specs.declared.placing.Addressed.{Addressed}
 use Rattle.x12_world.specs.Reach.{ReachedFacts}
 use Rattle.x12_world.specs.Placing.{AddressedSet, addressed, addressed_view}

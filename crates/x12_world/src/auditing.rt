@@ -20,7 +20,6 @@ ghost use Rattle.x12_world.specs.Running.{AllAnswer, all_answer};
 ghost use Rattle.x12_world.specs.Submission.{NumbersRise};
 
 use crate::asking::place_of;
-use crate::audit::Audit;
 use crate::placing::{Addressed, set_of_key};
 use crate::refused::Refused;
 use crate::world::World;
@@ -30,6 +29,7 @@ use x12_envelopes::Party;
 use x12_hub::HubRecords;
 use x12_inbound::Posting;
 use x12_outbound::Fate;
+use x12_report::Audit;
 use x12_station::{Records, Station, StationFault};
 
 /// The bytes of the interchange that alone may hold the submitted set of this key: what the station

@@ -17,7 +17,6 @@ ghost use Rattle.x12_world.specs.Running.{all_answer};
 ghost use Rattle.x12_world.specs.World.{World};
 
 use crate::asking::place_of;
-use crate::audit::Audit;
 use crate::listing::sets_among;
 use crate::placing::OutgoingSet;
 use crate::posted::{Posted, posted_by_all, tally};
@@ -27,6 +26,7 @@ use x12_acks::SetKey;
 use x12_core::Listed;
 use x12_envelopes::Party;
 use x12_outbound::Fate;
+use x12_report::Audit;
 use x12_station::{Records, Station};
 
 /// How many postings the station of this party, if there is one, has under a key, and whether each has

@@ -9,7 +9,6 @@ mod asked;
 mod asking;
 mod at_hub;
 mod at_station;
-mod audit;
 mod auditing;
 mod audits;
 mod event;
@@ -29,7 +28,6 @@ mod submission;
 mod world;
 pub mod x12;
 
-pub use audit::Audit;
 pub use audits::audit_all;
 pub use event::Event;
 pub use in_memory::{MemoryWorld, run_in_memory};

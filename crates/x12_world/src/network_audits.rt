@@ -7,11 +7,11 @@ ghost use Rattle.x12_world.specs.Auditing.{audit_view};
 ghost use Rattle.x12_world.specs.Audits.{AreAudits};
 ghost use Rattle.x12_world.specs.Running.{AllAnswer};
 
-use crate::audit::Audit;
 use crate::audits::audit_all;
 use crate::refused::Refused;
 use crate::world::World;
 use x12_hub::HubRecords;
+use x12_report::Audit;
 use x12_station::Records;
 
 impl<R: Records, H: HubRecords> World<R, H> {

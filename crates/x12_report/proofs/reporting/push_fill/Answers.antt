@@ -1,6 +1,6 @@
 use Rattle.std.proofs.Common.{arith}
 use Rattle.std.proofs.lemmas.Grind.{common_steps}
-use Rattle.x12_vanlab.proofs.reporting.push_fill.Goals as goal
+use Rattle.x12_report.proofs.reporting.push_fill.Goals as goal
 
 pub loop-n-preserved : goal.loop-n-preserved
 loop-n-preserved c = grind (arith, common_steps)

@@ -1,6 +1,6 @@
 use Rattle.std.proofs.Common.{◌≡◌, ◌++◌, flat_map, drop}
-use Rattle.x12_vanlab.specs.Reporting.{report_line}
-use Rattle.x12_vanlab.proofs.reporting.report.Given as goal
+use Rattle.x12_report.specs.Reporting.{report_line}
+use Rattle.x12_report.proofs.reporting.report.Given as goal
 
 abbrev pub invariant-loop-audit : goal.invariant-loop-audit
 invariant-loop-audit l =

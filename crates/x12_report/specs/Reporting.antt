@@ -8,8 +8,8 @@ use Rattle.x12_envelopes.specs.declared.party.Party.{Party}
 use Rattle.x12_envelopes.specs.Byte.{zero_padded_number}
 use Rattle.x12_outbound.specs.declared.fate.Fate.{Fate}
 use Rattle.x12_outbound.specs.declared.fate.Fate.TheVariants.{Pending, Accepted, Rejected}
-use Rattle.x12_world.specs.declared.audit.Audit.{Audit}
-use Rattle.x12_world.specs.Audit.{postings_are_bad}
+use Rattle.x12_report.specs.declared.audit.Audit.{Audit}
+use Rattle.x12_report.specs.Audit.{postings_are_bad}
 
 -- a party: its qualifier, a slash, and its identifier in fifteen places
 abbrev pub party_field : Party → List ℕ

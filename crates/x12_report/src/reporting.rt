@@ -3,16 +3,16 @@
 ghost use Rattle.std.specs.Prelude.{◌≡◌, ◌++◌, ◌∷◌, ◌-◌, OnOk, IfOk, flat_map};
 ghost use Rattle.std.specs.Prelude.{replicate, length, decimal};
 ghost use Rattle.x12_envelopes.specs.Byte.{zero_padded_number};
-ghost use Rattle.x12_vanlab.specs.Reporting.{party_field, fate_field, postings_field};
-ghost use Rattle.x12_vanlab.specs.Reporting.{audit_is_bad, mark_of, report_line};
-ghost use Rattle.x12_world.specs.Audit.{count_suits};
+ghost use Rattle.x12_report.specs.Audit.{count_suits};
+ghost use Rattle.x12_report.specs.Reporting.{party_field, fate_field, postings_field};
+ghost use Rattle.x12_report.specs.Reporting.{audit_is_bad, mark_of, report_line};
 
+use crate::audit::Audit;
 use itoa::Buffer;
 use std::alloc::{AllocError, Global};
 use x12_acks::SetKey;
 use x12_envelopes::Party;
 use x12_outbound::Fate;
-use x12_world::Audit;
 
 /// Appends one byte so many times.
 fn push_fill(out: &mut Vec<u8>, fill: u8, count: usize) -> Result<(), AllocError>
@@ -101,8 +101,8 @@ fn suits(fate: Fate, count: u64) -> bool
 
 /// Whether the receiver's postings contradict the fate or aren't what was submitted. Of a receiver
 /// that is no station nothing is known.
-pub(crate) fn is_bad(audit: &Audit) -> bool
-    ensures { result ≡ audit_is_bad audit.now }
+pub fn is_bad(audit: &Audit) -> bool
+    ensures bad { result ≡ audit_is_bad audit.now }
 {
     match audit.posted {
         Some(count) => !(suits(audit.fate, count) && audit.intact),

@@ -1,7 +1,7 @@
 use Rattle.std.proofs.Common.{arith}
 use Rattle.std.proofs.lemmas.Grind.{common_steps}
-use Rattle.x12_vanlab.specs.Reporting.{report_line}
-use Rattle.x12_vanlab.proofs.reporting.push_line.Goals as goal
+use Rattle.x12_report.specs.Reporting.{report_line}
+use Rattle.x12_report.proofs.reporting.push_line.Goals as goal
 
 pub returns : goal.returns
 unfolding report_line
