@@ -516,7 +516,10 @@ def try_terminal(tally, program, room):
     how = {"stdin": subprocess.DEVNULL, "stdout": subprocess.DEVNULL, "stderr": theirs}
     ran = subprocess.run(words, cwd=place.folder, timeout=120, check=False, **how)
     os.close(theirs)
-    said = os.read(ours, 1000)
+    said = b""
+    with contextlib.suppress(OSError):  # what its end is told by, once all was read
+        while piece := os.read(ours, 1000):
+            said += piece
     os.close(ours)
     wanted = b"\rturn 1: open 0, settled 0 \rturn 2: open 0, settled 0 "
     tally.want("terminal", (ran.returncode, said) == (0, wanted), f"status {ran.returncode}, {said!r}")
