@@ -4,8 +4,9 @@ the tests of a test crate are proved (they are run in any case: tests.py), and t
 
 usage: verdicts.py [--all] [CRATE ..]
 
-verdicts.txt has a line for each: what, how many, and the sum of all that they depend on (tools/stated.py says of what).
-Where the sum is the same, the verdict is taken from there. All else is tried: a line that isn't current fails nothing.
+verdicts.txt has a line for each: what, by which kit, how many, and the sum of all that they depend on (tools/stated.py says
+of what). Where the sum is the same, the verdict is taken from there. All else is tried: a line that isn't current fails
+nothing. Each kit has lines of its own, so that where two take turns neither tries again what the other changed nothing of.
 Of the wrong bodies that stand there, DRAWN are drawn at random and tried, each alone, so that a line which is false is
 seen sooner or later; that one fails, and its crate's line is named. --all takes nothing from there.
 
@@ -26,16 +27,17 @@ sys.path[:0] = [HERE, f"{HERE}/tools"]
 import stated
 import verdicts_selftest
 import wrong_bodies
-from crates import PARTS, RUNNING, Unproved, crates_of, free_memory, text_of
+from crates import KIT, PARTS, RUNNING, Unproved, crates_of, free_memory, text_of
 
 RECORD = os.environ.get("GATE_RECORD", f"{HERE}/verdicts.txt")
 DRAWN = 3
 OF_TESTS = 7_000_000  # kilobytes that a proof of tests wants to find free
 OF_EDITS = (*PARTS, "must-fail")
 STARTING, WRITING = threading.Lock(), threading.Lock()
-HEAD = """# Verdicts that were seen: what, how many, and the sum of all that they depend on. checks/verdicts.py says what that is,
-# writes these lines, and takes a verdict from them where its sum is still the same.
+HEAD = """# Verdicts that were seen: what, by which kit, how many, and the sum of all that they depend on. checks/verdicts.py says
+# what that is, writes these lines, and takes a verdict from those of its own kit where the sum is still the same.
 """
+ITS_KIT = text_of(f"{KIT}/KIT-ID").split()[0]
 TEST = re.compile(r"^ *#\[test\]$", re.M)
 
 
@@ -46,7 +48,31 @@ class Verdicts:
         self.name, self.count, self.sum = name, count, its_sum
 
     def line(self):
-        return f"{self.name} {self.count} {self.sum}"
+        return f"{self.name} {ITS_KIT} {self.count} {self.sum}"
+
+
+class Record:
+    """The lines that stand in a file, by the name and the kit that they begin with."""
+
+    def __init__(self, path):
+        self.path = path
+        lines = text_of(path).split("\n") if os.path.isfile(path) else []
+        self.lines = {tuple(it.split()[:2]): it for it in lines if it and it[0] != "#"}
+
+    def has(self, verdicts):
+        """Whether these verdicts stand there, by this kit, and all that they depend on is as it was."""
+        return self.lines.get((verdicts.name, ITS_KIT)) == verdicts.line()
+
+    def drop_others(self, names):
+        """Drops the lines of what has none of these names."""
+        self.lines = {key: line for key, line in self.lines.items() if key[0] in names}
+
+    def learn(self, verdicts):
+        """Writes the line of verdicts that were seen, in the place of the one by this kit."""
+        with WRITING:
+            self.lines[verdicts.name, ITS_KIT] = verdicts.line()
+            with open(self.path, "w", encoding="utf-8") as file:
+                file.write(HEAD + "".join(f"{self.lines[key]}\n" for key in sorted(self.lines)))
 
 
 class WrongBodies(Verdicts):
@@ -97,18 +123,6 @@ def all_of(crates, names):
     found = [WrongBodies(it) for it in chosen if os.path.isdir(f"{it.folder}/must-fail")]
     found += [TestsProved(it) for it in chosen if it.name.endswith("_tests")]
     return found + ([] if names else [Selftest()])
-
-
-def recorded():
-    """The lines of the record, by their names."""
-    lines = text_of(RECORD).split("\n") if os.path.isfile(RECORD) else []
-    return {it.split()[0]: it for it in lines if it and it[0] != "#"}
-
-
-def write(lines):
-    """Writes the record: these lines, by name, in their order."""
-    with open(RECORD, "w", encoding="utf-8") as file:
-        file.write(HEAD + "".join(f"{lines[name]}\n" for name in sorted(lines)))
 
 
 def drawn(known):
@@ -162,26 +176,19 @@ def main(words):
     if unknown:
         print(f"no crate of crates.txt: {', '.join(sorted(unknown))}")
         return 2
-    lines, every = recorded(), all_of(crates, [])
-    lines = {name: line for name, line in lines.items() if name in {it.name for it in every}}
-    found = all_of(crates, names)
-    changed = [it for it in found if "--all" in words or lines.get(it.name) != it.line()]
+    record, found = Record(RECORD), all_of(crates, names)
+    record.drop_others([it.name for it in (all_of(crates, []) if names else found)])
+    changed = [it for it in found if "--all" in words or not record.has(it)]
     known = [it for it in found if it not in changed]
     for it in changed:
         print(f"{it.name}: tried" + ("" if "--all" in words else ", since its sum is another"), flush=True)
-
-    def learn(it):
-        with WRITING:
-            lines[it.name] = it.line()
-            write(lines)
-
-    passed, failed = try_all(changed, known, learn)
+    passed, failed = try_all(changed, known, record.learn)
     for it in changed:
         if isinstance(it, Selftest):
             more, wrong = verdicts_selftest.run()
             passed, failed = passed + more, failed + wrong
             if not wrong:
-                learn(it)
+                record.learn(it)
     skipped = sum(it.count for it in known) - len(drawn(known))
     print(f"{passed} passed, {failed} failed, {skipped} skipped")
     return 1 if failed else 0

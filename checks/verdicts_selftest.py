@@ -9,7 +9,7 @@ or is none of the form, is told by its name.
 
 The sum of a crate stays where a body, an answer or a comment below it is another, and changes where a clause, a type,
 a constant, a definition or a lemma below it is, or a body of its own. A false line of the record is seen when it is
-drawn.
+drawn. A line by another kit is no verdict, and stays when one is written.
 The last line is 'N passed, M failed'.
 """
 import os
@@ -194,7 +194,7 @@ CHANGES = {
     "a definition": ("specs/Number.antt", "= 3", "= 4", True),
     "a lemma": ("proofs/Lemmas.antt", "refl", "search", True),
 }
-COUNT = len(EDITS) + len(DEFINED) + 1 + len(CHANGES) + 2
+COUNT = len(EDITS) + len(DEFINED) + 1 + len(CHANGES) + 3
 
 
 def write(files):
@@ -253,10 +253,27 @@ def of_a_false_line(top):
     yield (passed, failed) == (0, 1), f"a false line that is drawn: {passed} passed, {failed} failed"
 
 
+def of_two_kits(top):
+    """Whether a line by another kit is taken for none by this one, and stays when that is written."""
+    import verdicts
+
+    write({f"{top}/crates.txt": "above:\n", f"{top}/crates/above/src/lib.rt": ABOVE})
+    write({f"{top}/crates/above/must-fail/is_none.edit": IS_NONE})
+    its = verdicts.all_of(crates_of(top), ["above"])[0]
+    other = its.line().replace(verdicts.ITS_KIT, "another-kit")
+    write({f"{top}/record.txt": f"{other}\n"})
+    record = verdicts.Record(f"{top}/record.txt")
+    before = record.has(its)
+    record.learn(its)
+    again = verdicts.Record(record.path)
+    is_well = not before and again.has(its) and other in again.lines.values()
+    yield is_well, f"a line by another kit: {'no verdict, and it stays' if is_well else 'taken for one, or lost'}"
+
+
 def run():
     """Returns how much is said as it has to be, and how much isn't."""
     wells = []
-    for part in (of_edits, of_sums, of_a_false_line):
+    for part in (of_edits, of_sums, of_a_false_line, of_two_kits):
         with tempfile.TemporaryDirectory(prefix="verdicts-") as top:
             for is_well, said in part(top):
                 print(f"{'as wanted' if is_well else 'WRONG'}: {said}", flush=True)

@@ -1,10 +1,12 @@
 """The whole test: ./test, ./test --all, ./test --quick.
 
-./test works in a copy of the repository, and takes nothing that was kept but checks/verdicts.txt. `rt ci` proves every
-crate from nothing and runs the programs, without the test crates and the wrong bodies; beside it, at a lower priority,
-all tests are run unproved (tests.py), the verdicts that aren't known any more are tried (verdicts.py), and the scripts
-that need no program; behind it those that do. --all takes no verdict as known, writes verdicts.txt anew, and runs the
-tests with the address sanitizer. --quick proves next to nothing: quick.py says what it does.
+./test works in a copy of the repository, and takes nothing that was kept but checks/verdicts.txt, and what a kit's `rt ci`
+keeps of its own. `rt ci` proves every crate from nothing, or takes it from a run on this machine that proved the same files
+over the same libraries, where the kit keeps that; it runs the programs, without the test crates and the wrong bodies.
+Beside it, at a lower priority, all tests are run unproved (tests.py), the verdicts that aren't known any more are tried
+(verdicts.py), and the scripts that need no program; behind it, side by side, those that do. --all takes no verdict as
+known, writes verdicts.txt anew, and runs the tests with the address sanitizer. --quick proves next to nothing: quick.py
+says what it does.
 
 What failed is told where it was tried, and once more at the end, with the last lines that say so. The last line is
 'N passed, M failed', of all that was tried, and where verdicts were taken from the record ', K skipped': so many.
@@ -16,14 +18,16 @@ import subprocess
 import sys
 import tempfile
 import threading
+import time
+from concurrent.futures import ThreadPoolExecutor
 
 HERE = os.path.dirname(os.path.realpath(__file__))
 TOP = os.path.dirname(os.path.dirname(HERE))
 # Beside the proofs, in two lanes; and behind them, over the programs that were proved.
 BESIDE = [["sizes.py", "unused_imports.py", "words.py", "documents.py", "tests.py", "database_file.py", "linear_values.py"], ["verdicts.py"]]
 BEHIND = ["cases.sh", "replies.py", "scripts.py", "floods.py", "fuzz.py", "van.sh", "launcher.sh", "mailbox.py", "network.py"]
-# Behind the first of these lanes too, whose tests it runs.
-LAST = ["refused_memory.sh"]
+# Over them and over the tests that tests.py left.
+OVER_BOTH = ["refused_memory.sh"]
 # What the others use, or people alone.
 NOT_RUN = ["wrong_bodies.py", "verdicts_selftest.py", "quick.py"]
 COUNTS = re.compile(r"(\d+) passed, (\d+) failed(?:, (\d+) skipped)?")
@@ -77,7 +81,7 @@ class Gate:
 
     def __init__(self, run, words):
         self.run, self.words, self.counts, self.times = run, words, [0, 0, 0], f"{run}/times"
-        self.failures = []
+        self.failures, self.began, self.proved = [], time.monotonic(), 0
 
     def count(self, name, said, status):
         """Adds what the last of a command's lines says, or else its status. What fails without a count is one failure."""
@@ -111,6 +115,7 @@ class Gate:
                 open(f"{self.run}/proved/{found[1]}", "w", encoding="utf-8").close()
             say(said[-1])
         self.count("rt ci", said, running.wait())
+        self.proved = time.monotonic()
         open(f"{self.run}/proved/.ended", "w", encoding="utf-8").close()
 
     def check(self, name, folder, nice):
@@ -134,10 +139,10 @@ class Gate:
         for name in names:
             self.check(name, f"{self.run}/whole", 1)
 
-    def whole(self, lanes):
-        """All of it; returns whether nothing failed."""
+    def whole(self, processors):
+        """All of it, on so many processors; returns whether nothing failed."""
         for name in sorted(os.listdir(f"{TOP}/checks")):
-            listed = [*sum(BESIDE, []), *BEHIND, *LAST, *NOT_RUN]
+            listed = [*sum(BESIDE, []), *BEHIND, *OVER_BOTH, *NOT_RUN]
             if os.path.isfile(f"{TOP}/checks/{name}") and not name.endswith(".txt") and name not in listed:
                 self.count(f"checks/{name}, which isn't in the list of what ./test runs", [""], 1)
             elif name in listed and not os.access(f"{TOP}/checks/{name}", os.X_OK):
@@ -145,12 +150,10 @@ class Gate:
         beside = [threading.Thread(target=self.lane, args=[it]) for it in BESIDE]
         for it in beside:
             it.start()
-        self.prove(lanes)
-        for name in BEHIND:
-            self.check_programs(name)
+        self.prove(lanes_of_proofs(processors))
         beside[0].join()
-        for name in LAST:
-            self.check_programs(name)
+        with ThreadPoolExecutor(processors) as behind:
+            list(behind.map(self.check_programs, [*OVER_BOTH, *BEHIND]))
         for it in beside:
             it.join()
         return not self.counts[1]
@@ -166,6 +169,8 @@ class Gate:
         os.makedirs(f"{TOP}/out", exist_ok=True)
         shutil.copyfile(self.times, f"{TOP}/out/times.txt")
         subprocess.run([sys.executable, "-B", f"{HERE}/times.py", "tell", self.times, f"{TOP}/checks/budget.txt"], check=False)
+        ended, proved = ((it - self.began) / 60 for it in (time.monotonic(), self.proved))
+        print(f"  {ended:.1f} minutes by the clock, {proved:.1f} of them until `rt ci` ended")
         passed, failed, skipped = self.counts
         print("\n".join(self.failures), end="\n" * bool(self.failures))
         if skipped:
@@ -185,7 +190,7 @@ def main(words):
     with tempfile.TemporaryDirectory(prefix="gate-") as run:
         copies(run)
         gate = Gate(run, words)
-        if gate.whole(lanes_of_proofs(processors())):
+        if gate.whole(processors()):
             gate.leave()
         gate.tell()
         return 1 if gate.counts[1] else 0
