@@ -1,6 +1,7 @@
 //! Runs a network with threads.
 ghost use Rattle.std.specs.Prelude.{◌≡◌, ◌≤◌, ◌⊎◌, [], All, IfErr, IfOk, List, OnOk, Some, length, map};
 ghost use Rattle.std.specs.Prelude.{slice_get, vec_len, vec_capacity};
+ghost use Rattle.x12_network.specs.declared.fault.NetFault.{NetFault};
 ghost use Rattle.x12_network.specs.Linked.{AreLinked};
 ghost use Rattle.x12_network.specs.Senders.{senders_into, ArePlaced};
 
@@ -193,8 +194,8 @@ fn let_go<R: Records, H: HubRecords, G: Gate>(endpoints: Vec<Endpoint<Caller<'_,
 /// job that delivers a packet isn't made, and a list that has no node neither.
 ///
 /// The run ends when all jobs are made and no station has an open set, when each worker made its turns,
-/// or early, by a fault. The passes of the workers come back, in the order of the nodes; none, and no
-/// node was called, where memory for them is missing.
+/// or early, by a fault. The passes of the workers come back, in the order of the nodes; none, by
+/// `Memory`, and no node was called, where memory for them is missing.
 #[tactic(auto, using(crate::proofs::CallerLemmas::none_linked, crate::proofs::CallerLemmas::passes_linked, crate::proofs::CallerLemmas::passes_all))]
 pub fn run_network<
     R: Records + Send,
@@ -213,8 +214,8 @@ pub fn run_network<
     ensures linked { IfOk result (λ v. AreLinked plan.now.faults network.now.sites.now v.items) }
 
     // What an error leaves.
-    ensures back { IfErr result (λ e.
-        (length e.0.items ≡ length network.now.nodes.now) ⊎ (e.0.items ≡ [])) }
+    ensures back { IfErr result (λ e. (length e.0.items ≡ length network.now.nodes.now)
+        ⊎ ((e.0.items ≡ []) × (e.1 ≡ NetFault.Memory))) }
     ensures linked_back { IfErr result (λ e.
         AreLinked plan.now.faults network.now.sites.now e.0.items) }
 {

@@ -1,6 +1,8 @@
--- What the nodes of a settled network submitted, by their logs.
-use Rattle.std.specs.Prelude.{ℕ, List, Option, None, flat_map, map, option_to_list}
+-- What the nodes of a settled network are, and what they submitted, by their logs.
+use Rattle.std.specs.Prelude.{◌∷◌, [], ℕ, List, Option, None, flat_map, map, option_to_list}
+use Rattle.x12_core.specs.Node.{Node, IsHub, IsStation}
 use Rattle.x12_core.specs.declared.submission.Listed.{Listed}
+use Rattle.x12_hub.specs.Hub.{Hub}
 use Rattle.x12_nodes.specs.Cell.{CellView}
 use Rattle.x12_nodes.specs.Log.{LogEntry, NodeAnswer, Sent, FateIs}
 use Rattle.x12_station.specs.Station.{Station}
@@ -26,6 +28,15 @@ listed_in i log = flat_map (listed_of i) log
 -- what the logs of all nodes submitted, node by node
 abbrev pub listed_in_logs : List CellView → List Listed
 listed_in_logs cells = flat_map (λ (c : CellView). listed_in c.site.node c.log) cells
+
+-- the hub that a node is
+abbrev pub hub_of_node : Node → List Hub
+hub_of_node (IsHub h) = h ∷ []
+hub_of_node (IsStation s) = []
+
+-- the hubs that the nodes of cells are
+abbrev pub hubs_of_cells : List CellView → List Hub
+hubs_of_cells cells = flat_map hub_of_node (map (λ (c : CellView). c.now) cells)
 
 -- the stations that the nodes of cells are
 abbrev pub states_in : List CellView → List Station

@@ -4,7 +4,8 @@ ghost use Rattle.std.specs.Prelude.{◌≡◌, ◌≤◌, ◌<◌, ◌+◌, ◌+
 ghost use Rattle.std.specs.Prelude.{vec_len, vec_capacity};
 ghost use Rattle.x12_core.specs.Core.{node_of};
 ghost use Rattle.x12_nodes.specs.Settling.{all_cells_answer, AreOneRun};
-ghost use Rattle.x12_nodes.specs.Unlocking.{listed_as, listed_in, listed_in_logs, number_told, states_in};
+ghost use Rattle.x12_nodes.specs.Unlocking.{hub_of_node, hubs_of_cells, listed_as, listed_in};
+ghost use Rattle.x12_nodes.specs.Unlocking.{listed_in_logs, number_told, states_in};
 ghost use Rattle.x12_nodes.specs.View.{answer_kept, log_entry_view};
 ghost use Rattle.x12_nodes.specs.Writing.{HasRoomFor};
 ghost use Rattle.x12_world.specs.Asking.{states_of};
@@ -104,6 +105,8 @@ fn put<R: Records, H: HubRecords>(
 )
     requires hubs { vec_len hubs.old < vec_capacity hubs.old }
     requires stations { vec_len stations.old < vec_capacity stations.old }
+    ensures put { map (λ h. h.hub) hubs.new.items
+        ≡ map (λ h. h.hub) hubs.old.items ++ hub_of_node (node_of core) }
     ensures states { states_of stations.new.items
         ≡ states_of stations.old.items ++ station_in (node_of core) }
     ensures hubs { (vec_len hubs.new ≤ vec_len hubs.old + 1)
@@ -125,7 +128,9 @@ fn part<R: Records, H: HubRecords>(
 )
     requires hubs { vec_len cells + vec_len hubs.old ≤ vec_capacity hubs.old }
     requires stations { vec_len cells + vec_len stations.old ≤ vec_capacity stations.old }
-    ensures { states_of stations.new.items
+    ensures hubs { map (λ h. h.hub) hubs.new.items
+        ≡ map (λ h. h.hub) hubs.old.items ++ hubs_of_cells cells.items }
+    ensures states { states_of stations.new.items
         ≡ states_of stations.old.items ++ states_in cells.items }
 {
     let mut left = cells.into_iter();
@@ -141,6 +146,7 @@ impl<R: Records, H: HubRecords> Settlement<R, H> {
     ///
     /// Where memory for that is missing, the settlement as it was.
     pub fn unlock(self) -> Result<Unlocked<R, H>, Settlement<R, H>>
+        ensures hubs { IfOk result (λ u. map (λ h. h.hub) u.hubs.items ≡ hubs_of_cells self.cells) }
         ensures states { IfOk result (λ u. states_of u.stations.items ≡ states_in self.cells) }
         ensures world { IfOk result (λ u. IsTrue (all_cells_answer self.cells) →
             (one : AreOneRun self.cells) →

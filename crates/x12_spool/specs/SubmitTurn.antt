@@ -1,11 +1,11 @@
 -- What a station does with prepared interchanges in a turn, while its records answer.
 use Rattle.std.specs.Global.{Global}
-use Rattle.std.specs.Prelude.{◌≡◌, ◌⊎◌, ◌∷◌, [], IsTrue, List, None, Option, Some, Vec, ℕ, ⊤}
+use Rattle.std.specs.Prelude.{◌≡◌, ◌≢◌, ◌⊎◌, ◌∷◌, [], IsTrue, List, None, Option, Some, Vec, ℕ, ⊤}
 use Rattle.x12_profile.specs.Interchange.{Bytes}
 use Rattle.x12_profile.specs.X12.{x12}
 use Rattle.x12_station.specs.declared.fault.StationFault.{StationFault}
-use Rattle.x12_station.specs.declared.fault.StationFault.TheVariants.{NotNew}
-use Rattle.x12_station.specs.Fault.{IsRowOrWant, prepared_fault}
+use Rattle.x12_station.specs.declared.fault.StationFault.TheVariants.{Memory, NotNew, Store}
+use Rattle.x12_station.specs.Fault.{prepared_fault}
 use Rattle.x12_station.specs.History.{submission_under}
 use Rattle.x12_station.specs.Outgoing.{outgoing_bytes}
 use Rattle.x12_station.specs.Seen.{StationView}
@@ -40,11 +40,12 @@ IsSubmittedNow b old new sends =
     (IsTrue new.answers → IsTrue old.answers × (submit x12 old.state b ≡ Some (record { station = new.state; sends = sends })))
     ⊎ (IsKnown b old new × (sends ≡ b ∷ []))
 
--- why bytes may not be submitted: what the table of the station says
+-- Why bytes may not be submitted: the row of the station's table that says so. For want of memory, or where the records failed, no
+-- bytes are refused.
 abbrev pub MayNotSubmit : {R : Type 0} → Bytes → StationView R → StationView R → Reason → Type 0
 MayNotSubmit b old new reason =
-    (fault : StationFault) × (reason ≡ NotSubmitted fault)
-    × (IsTrue new.answers → IsRowOrWant (prepared_fault old.state b) fault)
+    (fault : StationFault) × (reason ≡ NotSubmitted fault) × (fault ≢ Memory) × (fault ≢ Store)
+    × (IsTrue new.answers → prepared_fault old.state b ≡ Some fault)
 
 -- a station at a moment, as the node that submits
 abbrev pub submitting : {R : Type 0} → StationAt R → Submitting R

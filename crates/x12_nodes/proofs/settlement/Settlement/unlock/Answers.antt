@@ -12,5 +12,5 @@ returns-clause-world g c =
     rw (← c.self.view_is) (λ answers one.
     has_stations_so cells (states_of c.part.new.stations.items) c.in-Ok.submitted.items c.reached.ensures.reached
     (subst (All IsReplayed) c.deref.ensures.value c.are_replayed.ensures) answers one
-    (c.part.ensures ∙ ap (λ ss. states_of ss ++ states_in cells) c.in-Ok-room_for.ensures.second.0)
+    (c.part.ensures.states ∙ ap (λ ss. states_of ss ++ states_in cells) c.in-Ok-room_for.ensures.second.0)
     (c.in-Ok.ensures ∙ ap listed_in_logs c.deref-2.ensures.value))
