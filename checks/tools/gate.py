@@ -128,8 +128,10 @@ class Gate:
         say(f"== {name}\n{said}")
         self.count(name, said.split("\n"), running.returncode)
 
-    def check_programs(self, name):
-        """Runs a script over the proved programs, where they are there."""
+    def check_programs(self, name, tests):
+        """Runs a script over the proved programs, where they are there, and once the tests were run that it needs beside."""
+        if name in OVER_BOTH:
+            tests.join()
         if all(os.path.isfile(f"{self.run}/top/crates/{it}/out/{it}") for it in PROGRAMS):
             self.check(name, f"{self.run}/top", 0)
         else:
@@ -151,9 +153,8 @@ class Gate:
         for it in beside:
             it.start()
         self.prove(lanes_of_proofs(processors))
-        beside[0].join()
-        with ThreadPoolExecutor(processors) as behind:
-            list(behind.map(self.check_programs, [*OVER_BOTH, *BEHIND]))
+        with ThreadPoolExecutor(processors + len(OVER_BOTH)) as behind:
+            list(behind.map(lambda name: self.check_programs(name, beside[0]), [*OVER_BOTH, *BEHIND]))
         for it in beside:
             it.join()
         return not self.counts[1]
