@@ -78,6 +78,7 @@ for word in init enrol agree submit run status log postings reconcile verify; do
   make
   ends "the word $word is of mailboxes" 7 1 "$word two words: input"
 done
+word='help run' ends 'the help of a word of mailboxes' 7 1 "run --help two words: input"
 mkdir "$dir/link"
 ln -s "$dir/top/van" "$dir/link/van"
 from=link ends 'a link leads to it' 7 1 "$word two words: input"

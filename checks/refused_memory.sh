@@ -1,7 +1,9 @@
 #!/bin/bash
 # Refuses each allocation of a run in turn, of the program and of the crates' tests, and looks at the answer.
 #
-# usage: refused_memory.sh [TESTS]
+# usage: refused_memory.sh [program | tests [TESTS]]
+#
+# With a word it looks at the program alone, or at the tests alone.
 #
 # The program has to end as its help says of a run that stopped: status 1, and one sentence on standard error that says
 # so; what it wrote are whole replies, from the first on. A test has to pass, or to end by the error of want of memory.
@@ -15,15 +17,24 @@
 # `rt try --fail-alloc N` refuses one allocation too, but builds for each N, which takes a minute. So this runs what was
 # built, with a library in front of malloc and realloc that refuses the one. The program is the proved one. The tests
 # are those that `checks/tests.py --keep TESTS` left, in one program: unproved, without LLVM's optimizations and without
-# the address sanitizer, and with tests of each index, sum and `unwrap`. Without a word TESTS is tests in the folder of
-# the gate's run, or else out/tests.
+# the address sanitizer, and with tests of each index, sum and `unwrap`. Unless it is said, TESTS is tests in the folder
+# of the gate's run, or else out/tests.
 #
 # Not tried: two refusals in one run; the tests of interchanges and judgements, whose calls the program and the other
 # tests make, and those of whole transmissions, which make the program's; those of a station's orders, limits and
 # journeys, of a network and of scripts, which assert what such calls answer or make thousands of allocations; records
 # in SQLite tables, for the same reasons; control numbers, which take no memory; and the tests in asserts_memory.
 set -u
-tests=${1:+$(realpath -m -- "$1")}
+case ${1-} in
+  program) parts=look_at_program ;;
+  tests) parts=look_at_tests ;;
+  '') parts='look_at_program look_at_tests' ;;
+  *)
+    echo 'usage: refused_memory.sh [program | tests [TESTS]]' >&2
+    exit 2
+    ;;
+esac
+tests=${2:+$(realpath -m -- "$2")}
 ulimit -c 0
 cd "$(dirname "$0")/.." || exit 1
 dir=$(mktemp -d)
@@ -184,25 +195,27 @@ script() {
   [ $stopped -gt 100 ] || complain "$1: only $stopped runs stopped"
 }
 
-if ./vanlab --version >/dev/null 2>&1; then
-  cp crates/vanlab/stdin "$dir/in"
-  answer 'an order'
-  spares 65536 'an order' "$program" "${words[@]}" <"$dir/in"
+look_at_program() {
+  if ./vanlab --version >/dev/null 2>&1; then
+    cp crates/vanlab/stdin "$dir/in"
+    answer 'an order'
+    spares 65536 'an order' "$program" "${words[@]}" <"$dir/in"
 
-  # An order, one with a wrong count, one with an element in error, a refused interchange, an unreadable one and a
-  # refused group, sixty times: the replies to the first of them are written before the last are made.
-  order=$(cat crates/vanlab/stdin)
-  for _ in {1..60}; do
-    printf %s "$order" "${order/SE\*4/SE*5}" "${order/BEG\*00/BEG*000}" "${order/IEA\*1/IEA*2}" "${order/\*U\*/*UU}" \
-      "${order/GS\*PO/GS*IN}"
-  done >"$dir/in"
-  answer 'a long transmission'
-  [ $partly -gt 0 ] || complain 'a long transmission: no run stopped behind a reply that was written'
-  script samples/kept_reply.script
-  script samples/lost_twice.script
-else
-  complain "$program is not built"
-fi
+    # An order, one with a wrong count, one with an element in error, a refused interchange, an unreadable one and a
+    # refused group, sixty times: the replies to the first of them are written before the last are made.
+    order=$(cat crates/vanlab/stdin)
+    for _ in {1..60}; do
+      printf %s "$order" "${order/SE\*4/SE*5}" "${order/BEG\*00/BEG*000}" "${order/IEA\*1/IEA*2}" "${order/\*U\*/*UU}" \
+        "${order/GS\*PO/GS*IN}"
+    done >"$dir/in"
+    answer 'a long transmission'
+    [ $partly -gt 0 ] || complain 'a long transmission: no run stopped behind a reply that was written'
+    script samples/kept_reply.script
+    script samples/lost_twice.script
+  else
+    complain "$program is not built"
+  fi
+}
 
 # --- The crates ----------------------------------------------------------------------------------------------------
 
@@ -275,15 +288,20 @@ spares_all() {
   [ $count -gt 0 ] || complain "$1: no test showed what is taken at once"
 }
 
-refusals=0
-if is_current; then
-  sweep_all x12_tests answer command memory need reply writing
-  sweep_all x12_ledger_tests memory plan register settling
-  sweep_all x12_network_tests hub hub_records station_answers station_arrivals station_ticks
-  sweep_all x12_nodes_tests memory
-  spares_all x12_ledger_tests large memory register sending
-else
-  complain "$tests isn't there, or a source is newer: run checks/tests.py --keep out/tests"
-fi
+look_at_tests() {
+  refusals=0
+  if is_current; then
+    sweep_all x12_tests answer command memory need reply writing
+    sweep_all x12_ledger_tests memory plan register settling
+    sweep_all x12_network_tests hub hub_records station_answers station_arrivals station_ticks
+    sweep_all x12_nodes_tests memory
+    spares_all x12_ledger_tests large memory register sending
+  else
+    complain "$tests isn't there, or a source is newer: run checks/tests.py --keep out/tests"
+  fi
+}
 
+for part in $parts; do
+  $part
+done
 [ $failures -eq 0 ]

@@ -1,5 +1,6 @@
 #!/usr/bin/env python3
-"""Names that a Rattle file imports and doesn't use, and aliases in a `ghost use`: one line each, and status 1 if any.
+"""Names that a Rattle file or a file of definitions imports and doesn't use, and aliases in a `ghost use`: one line each,
+and status 1 if any.
 
 A name counts as used where it stands as a whole word anywhere else in the file outside comments, an operator where it
 stands at all, `fmt` where an error type is derived, and a trait of METHODS where one of its methods is called.
@@ -9,7 +10,11 @@ import os
 import re
 import sys
 
-
+# The files of a crate that are read, and how a comment and an import stand in them.
+KINDS = {
+    "src/**/*.rt": (r"//[^\n]*", r"^[ \t]*(ghost )?use ([^;]*);"),
+    "specs/**/*.antt": (r"--[^\n]*", r"^()use (.*)$"),
+}
 # Traits that a file may import for a method alone.
 METHODS = {
     "Write": r"\.(write|write_all|flush)\(",
@@ -20,14 +25,9 @@ METHODS = {
 }
 
 
-def code_of(text):
-    """The text without its comments."""
-    return re.sub(r"//[^\n]*", "", text)
-
-
-def imported(text):
+def imported(text, form):
     """Each import: where it stands, whether it is ghost, the name that it brings, and the alias."""
-    for use in re.finditer(r"^[ \t]*(ghost )?use ([^;]*);", text, re.M):
+    for use in re.finditer(form, text, re.M):
         ghost = use.group(1) is not None
         for item in re.finditer(r"[^\s,{}]+(?: as [^\s,{}]+)?(?=\s*[,}]|\s*$)", use.group(2)):
             path, _, alias = item.group(0).partition(" as ")
@@ -48,12 +48,12 @@ def is_used(name, rest):
     return re.search(rf"(?<!\w){re.escape(name)}(?!\w)", rest) is not None
 
 
-def faults(path):
+def faults(path, comment, form):
     with open(path, encoding="utf-8") as file:
-        text = code_of(file.read())
-    rest = re.sub(r"^[ \t]*(?:ghost )?use [^;]*;", "", text, flags=re.M)
-    for use, line, ghost, name, alias in imported(text):
-        if ghost and alias:
+        text = re.sub(comment, "", file.read())
+    rest = re.sub(form, "", text, flags=re.M)
+    for use, line, ghost, name, alias in imported(text, form):
+        if ghost and alias and path.endswith(".rt"):
             yield line, f"{name} as {alias}: an alias, which no search finds"
         if name in ("*", "self") or alias == "_" or use.group(0).lstrip().startswith("pub"):
             continue
@@ -64,10 +64,11 @@ def faults(path):
 def main():
     root = os.path.dirname(os.path.dirname(os.path.abspath(__file__)))
     found = 0
-    for path in sorted(glob.glob(os.path.join(root, "crates", "*", "src", "**", "*.rt"), recursive=True)):
-        for line, fault in faults(path):
-            print(f"{os.path.relpath(path, root)}:{line}: {fault}")
-            found += 1
+    for files, (comment, form) in KINDS.items():
+        for path in sorted(glob.glob(os.path.join(root, "crates", "*", files), recursive=True)):
+            for line, fault in faults(path, comment, form):
+                print(f"{os.path.relpath(path, root)}:{line}: {fault}")
+                found += 1
     sys.exit(1 if found else 0)
 
 

@@ -4,7 +4,7 @@
 keeps of its own. `rt ci` proves every crate from nothing, or takes it from a run on this machine that proved the same files
 over the same libraries, where the kit keeps that; it runs the programs, without the test crates and the wrong bodies.
 Beside it, at a lower priority, all tests are run unproved (tests.py), the verdicts that aren't known any more are tried
-(verdicts.py), and the scripts that need no program; behind it, side by side, those that do. --all takes no verdict as
+(verdicts.py), and the scripts that need no proved program; behind it, side by side, those that do. --all takes no verdict as
 known, writes verdicts.txt anew, and runs the tests with the address sanitizer. --quick proves next to nothing: quick.py
 says what it does.
 
@@ -23,11 +23,13 @@ from concurrent.futures import ThreadPoolExecutor
 
 HERE = os.path.dirname(os.path.realpath(__file__))
 TOP = os.path.dirname(os.path.dirname(HERE))
-# Beside the proofs, in two lanes; and behind them, over the programs that were proved.
-BESIDE = [["sizes.py", "unused_imports.py", "words.py", "documents.py", "tests.py", "database_file.py", "linear_values.py"], ["verdicts.py"]]
-BEHIND = ["cases.sh", "replies.py", "scripts.py", "floods.py", "fuzz.py", "van.sh", "launcher.sh", "mailbox.py", "network.py"]
-# Over them and over the tests that tests.py left.
-OVER_BOTH = ["refused_memory.sh"]
+# The first crates are proved by themselves as far as these: each but the last ones waits for the one before it.
+FIRST = ["x12_numbers", "x12_acks"]
+# Beside the proofs, in two lanes; and behind them, over the programs that were proved. Some are told their part.
+PAGES = ["sizes.py", "unused_imports.py", "words.py", "documents.py"]
+BESIDE = [[*PAGES, "tests.py", "refused_memory.sh tests", "database_file.py", "linear_values.py"], ["verdicts.py"]]
+OF_SCRIPTS = ["cases.sh", "replies.py", "scripts.py", "floods.py", "fuzz.py"]
+BEHIND = ["refused_memory.sh program", "mailbox.py", *OF_SCRIPTS, "van.sh", "launcher.sh", "network.py"]
 # What the others use, or people alone.
 NOT_RUN = ["wrong_bodies.py", "verdicts_selftest.py", "quick.py"]
 COUNTS = re.compile(r"(\d+) passed, (\d+) failed(?:, (\d+) skipped)?")
@@ -103,35 +105,45 @@ class Gate:
         how = {"stdin": subprocess.DEVNULL, "stdout": subprocess.PIPE, "stderr": subprocess.STDOUT}
         return subprocess.Popen([*["nice", "-n", "10"] * nice, *timed], cwd=folder, env=its, text=True, errors="replace", **how)
 
-    def prove(self, lanes):
-        """Runs `rt ci`, tells what it says as it says it, and notes each library that is proved.
-
-        RT_JOBS says how many proofs run side by side: by itself `rt ci` wants four times the memory that they take."""
-        running, said = self.start("-", f"{self.run}/top", ["rt", "ci"], 0, RT_JOBS=str(lanes)), [""]
+    def run_ci(self, words, **more):
+        """Runs `rt ci`, tells what it says as it says it, and notes each library that is there then: with names it works in a
+        copy. Returns its lines and its status."""
+        running, said = self.start("-", f"{self.run}/top", ["rt", "ci", *words], 0, **more), [""]
         for line in running.stdout:
             said.append(line.rstrip("\n"))
             found = PROVED.fullmatch(said[-1])
-            if found:
+            if found and not words:
                 open(f"{self.run}/proved/{found[1]}", "w", encoding="utf-8").close()
             say(said[-1])
-        self.count("rt ci", said, running.wait())
+        return said, running.wait()
+
+    def prove(self, lanes):
+        """Proves all crates.
+
+        RT_JOBS says how many proofs run side by side: by itself `rt ci` wants four times the memory that they take. But it
+        gives a proof one processor then, and most of them idle while the first crates wait for one another: so these are
+        proved without it, where there are more than two lanes and the kit keeps what it proved for the next run."""
+        for name in FIRST if lanes > 2 and not os.environ.get("RT_JOBS") else []:
+            said, _ = self.run_ci([name])
+            if not any(line.endswith("and that is kept. This is not the gate: run rt ci with no names") for line in said):
+                break
+        self.count("rt ci", *self.run_ci([], RT_JOBS=str(lanes)))
         self.proved = time.monotonic()
         open(f"{self.run}/proved/.ended", "w", encoding="utf-8").close()
 
     def check(self, name, folder, nice):
         """Runs a script of checks/, and tells what it said once it has ended."""
         of_tests = ["--native"] * (self.words != ["--all"]) + ["--keep", f"{self.run}/tests"]
-        words = {"verdicts.py": self.words, "tests.py": of_tests}.get(name, [])
-        kind = "edits" if name == "verdicts.py" else "check"
-        running = self.start(kind, folder, [f"checks/{name}", *words], nice)
+        script, *part = name.split()
+        words = {"verdicts.py": self.words, "tests.py": of_tests}.get(script, part)
+        kind = "edits" if script == "verdicts.py" else "check"
+        running = self.start(kind, folder, [f"checks/{script}", *words], nice)
         said = running.communicate()[0].rstrip("\n")
         say(f"== {name}\n{said}")
         self.count(name, said.split("\n"), running.returncode)
 
-    def check_programs(self, name, tests):
-        """Runs a script over the proved programs, where they are there, and once the tests were run that it needs beside."""
-        if name in OVER_BOTH:
-            tests.join()
+    def check_programs(self, name):
+        """Runs a script over the proved programs, where they are there."""
         if all(os.path.isfile(f"{self.run}/top/crates/{it}/out/{it}") for it in PROGRAMS):
             self.check(name, f"{self.run}/top", 0)
         else:
@@ -144,7 +156,7 @@ class Gate:
     def whole(self, processors):
         """All of it, on so many processors; returns whether nothing failed."""
         for name in sorted(os.listdir(f"{TOP}/checks")):
-            listed = [*sum(BESIDE, []), *BEHIND, *OVER_BOTH, *NOT_RUN]
+            listed = [*[it.split()[0] for it in [*sum(BESIDE, []), *BEHIND]], *NOT_RUN]
             if os.path.isfile(f"{TOP}/checks/{name}") and not name.endswith(".txt") and name not in listed:
                 self.count(f"checks/{name}, which isn't in the list of what ./test runs", [""], 1)
             elif name in listed and not os.access(f"{TOP}/checks/{name}", os.X_OK):
@@ -153,8 +165,8 @@ class Gate:
         for it in beside:
             it.start()
         self.prove(lanes_of_proofs(processors))
-        with ThreadPoolExecutor(processors + len(OVER_BOTH)) as behind:
-            list(behind.map(lambda name: self.check_programs(name, beside[0]), [*OVER_BOTH, *BEHIND]))
+        with ThreadPoolExecutor(processors) as behind:
+            list(behind.map(self.check_programs, BEHIND))
         for it in beside:
             it.join()
         return not self.counts[1]

@@ -91,13 +91,22 @@ fn taken(rt: &HostRuntime, name: &str, read: Result<Vec<u8>, RunFault>) -> Resul
     }
 }
 
-/// Reads one input. Where it can't be read, or is compressed, a sentence on standard error says why,
-/// and there is none.
+/// Whether what was opened is a folder, which has no bytes.
+fn is_folder(file: &File) -> bool {
+    match file.metadata() {
+        Ok(found) => found.is_dir(),
+        Err(_) => false,
+    }
+}
+
+/// Reads one input. Where it can't be read, is compressed or a folder, a sentence on standard error
+/// says why, and there is none.
 pub fn read(rt: &HostRuntime, name: &str) -> Result<Option<Vec<u8>>> {
     if name == "-" {
         return taken(rt, name, read_whole(rt.alloc(), &mut rt.stdin()));
     }
     match File::open(rt, name) {
+        Ok(file) if is_folder(&file) => unread(rt, name, "it is a folder"),
         Ok(mut file) => taken(rt, name, read_whole(rt.alloc(), &mut file)),
         Err(error) => {
             eprintln!(rt; "van: {name}: it can't be opened: {error}")?;

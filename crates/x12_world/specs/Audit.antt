@@ -1,5 +1,5 @@
 -- What an auditor sees of a submitted set: its sender's fate and its receiver's postings, by key.
-use Rattle.std.specs.Prelude.{◌≡◌, ◌≢◌, ◌==◌, ◌&&◌, AllPairs, ℕ, List, [], ◌∷◌, Bool, true, false, not, nat_le, flat_map, find, Option, Some, None, length, bytes_eq, is_some, option_map, option_and_then, Contains, unwrap_or, ◌↔◌}
+use Rattle.std.specs.Prelude.{◌≡◌, ◌≢◌, AllPairs, ℕ, List, [], ◌∷◌, Bool, true, false, flat_map, find, Option, Some, length, bytes_eq, is_some, option_map, option_and_then, Contains, unwrap_or, ◌↔◌}
 use Rattle.std.specs.List.{list_all}
 use Rattle.x12_envelopes.specs.declared.party.Party.{Party}
 use Rattle.x12_judge.specs.Agreement.{is_same_party}
