@@ -23,7 +23,7 @@ from concurrent.futures import ThreadPoolExecutor
 
 HERE = os.path.dirname(os.path.realpath(__file__))
 TOP = os.path.dirname(os.path.dirname(HERE))
-# The first crates are proved by themselves as far as these: each but the last ones waits for the one before it.
+# The first crates wait for one another, and are proved by runs of their own: as far as the one, then the other.
 FIRST = ["x12_numbers", "x12_acks"]
 # Beside the proofs, in two lanes; and behind them, over the programs that were proved. Some are told their part.
 PAGES = ["sizes.py", "unused_imports.py", "words.py", "documents.py"]
