@@ -1,5 +1,5 @@
 -- How many bytes the 997s of functional groups take.
-use Rattle.std.proofs.Common.{◌≤◌, ◌<◌, ℕ, ◌+◌, ◌*◌, ◌==◌, Bool, true, false, List, [], ◌∷◌, ◌++◌, length, map, decimal, codes, arith, flat_map, unwrap_or, option_map, is_some}
+use Rattle.std.proofs.Common.{◌≤◌, ◌<◌, ℕ, ◌+◌, ◌*◌, ◌==◌, ◌&&◌, Bool, true, false, List, [], ◌∷◌, ◌++◌, length, map, decimal, codes, arith, flat_map, unwrap_or, option_map, is_some}
 use Rattle.std.specs.Prelude.{Option, Some, None}
 use Rattle.std.specs.Option.{option_to_list}
 use Rattle.std.specs.List.{AllByRecursion, sum_by, enumerate_from}
@@ -14,7 +14,7 @@ use Rattle.x12_judge.specs.declared.verdict.GroupRefusal.{GroupRefusal}
 use Rattle.x12_judge.specs.declared.verdict.GroupRefusal.TheVariants as group
 use Rattle.x12_judge.specs.Code.{group_refusal_number}
 use Rattle.x12_judge.specs.Group.{FunctionalGroupVerdict}
-use Rattle.x12_acks.specs.Reply.{refusal_code, set_answer, code_of_group, ak9_segment, group_answer}
+use Rattle.x12_acks.specs.Reply.{refusal_code, set_answer, code_of_group, ak9_segment, group_answer, some_are_noted}
 use Rattle.x12_acks.proofs.SizeLemmas.{sized, text_sized, text_size, size-append, size_between, segments_within, short_decimal, nine_digits}
 use Rattle.x12_acks.proofs.SetSizeLemmas.{IsShortSet, sets_size}
 
@@ -43,15 +43,16 @@ refusal_sized (Some r) =
     let digits = short_decimal 1 (group_refusal_number r) (omega arith) (omega (arith, below)) (omega (arith, below)) in
     omega (arith, digits)
 
-one_byte : (a b c : Bool) → length (unwrap_or (first_of_rows ((a, codes "R") ∷ (b, codes "A") ∷ (c, codes "R") ∷ [])) (codes "P")) ≤ 1
-one_byte true b c = omega arith
-one_byte false true c = omega arith
-one_byte false false true = omega arith
-one_byte false false false = omega arith
+one_byte : (a b c d : Bool) → length (unwrap_or (first_of_rows ((a, codes "R") ∷ (b, codes "E") ∷ (c, codes "A") ∷ (d, codes "R") ∷ [])) (codes "P")) ≤ 1
+one_byte true b c d = omega arith
+one_byte false true c d = omega arith
+one_byte false false true d = omega arith
+one_byte false false false true = omega arith
+one_byte false false false false = omega arith
 
 code_byte : (v : FunctionalGroupVerdict) → length (code_of_group v) ≤ 1
 unfolding code_of_group
-code_byte v = one_byte (is_some v.refused) (v.accepted == length v.sets) (v.accepted == 0)
+code_byte v = one_byte (is_some v.refused) (v.accepted == length v.sets && some_are_noted v.sets) (v.accepted == length v.sets) (v.accepted == 0)
 
 ak9_size : (d : Delims) (v : FunctionalGroupVerdict) → IsShortGroup v → length (segment_text d (ak9_segment v)) ≤ 50
 ak9_size d v short =

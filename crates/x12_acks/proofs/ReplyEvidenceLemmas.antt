@@ -1,27 +1,35 @@
 -- The evidence of a reply's answers is the verdict's.
-use Rattle.std.proofs.Common.{◌≡◌, ◌∷◌, [], List, ℕ, Bool, true, false, not, map, unwrap_or, if◌then◌else◌, ◌==◌, length, refl, cond, ap, append-nil, arith, sym, ◌∙◌, is_some, count_by, ◌+◌}
+use Rattle.std.proofs.Common.{◌≡◌, ◌∷◌, [], List, ℕ, Bool, true, false, not, map, unwrap_or, if◌then◌else◌, ◌==◌, length, refl, cond, ap, ap₂, append-nil, arith, sym, ◌∙◌, is_some, count_by, ◌+◌}
 use Rattle.std.specs.Prelude.{Some, find, bytes_eq, zip}
 use Rattle.std.specs.List.{AllByRecursion, IsDistinct, list_any}
-use Rattle.x12_envelopes.specs.Row.{first_of_rows}
-use Rattle.x12_judge.specs.Set.{TransactionSetVerdict, set_is_accepted}
+use Rattle.x12_judge.specs.declared.verdict.SetResult.{SetResult}
+use Rattle.x12_judge.specs.declared.verdict.SetResult.TheVariants as result
+use Rattle.x12_judge.specs.Set.{TransactionSetVerdict, set_is_accepted, takes}
 use Rattle.x12_judge.specs.Group.{FunctionalGroupVerdict}
-use Rattle.x12_acks.specs.declared.answer.AnswerCode.TheVariants.{Accepted, Rejected, PartiallyAccepted}
 use Rattle.x12_acks.specs.Submission.{KeyedSet, KeyedGroup}
-use Rattle.x12_acks.specs.Evidence.{accepted, rejected, tells, tells_each, fate_of_code, listed_evidence, unlisted, group_evidence}
+use Rattle.x12_acks.specs.Evidence.{rejected, tells, tells_each, fate_of_code, fate_of_result, listed_evidence, unlisted, group_evidence}
+use Rattle.x12_acks.specs.Reply.{some_are_noted}
 use Rattle.x12_acks.specs.Told.{set_told, group_told}
 use Rattle.std.proofs.lemmas.List.Sums.{sum_by-cons}
 use Rattle.std.proofs.lemmas.Bool.Decides.{Decides-eqb}
 use Rattle.x12_acks.proofs.FindingLemmas.{each_found, filter_none, all_map, all_true}
-use Rattle.x12_acks.proofs.ReplyStatementLemmas.{group_code_of, told_set, IsToldGroup}
+use Rattle.x12_acks.proofs.ReplyStatementLemmas.{code_written, group_code_by, group_code_of, told_set, IsToldGroup}
 use Rattle.x12_numbers.proofs.Shelf.{bytes_eq_itself, or_true_right}
 
-fate_told : (b : Bool) → fate_of_code (if b then Accepted else Rejected) ≡ (if b then accepted else rejected)
-fate_told true = refl
-fate_told false = refl
+fate_told : (r : SetResult) → fate_of_code (code_written r) ≡ fate_of_result r
+fate_told result.Accepted = refl
+fate_told result.Noted = refl
+fate_told result.Rejected = refl
+
+-- what isn't accepted is rejected
+not_taken : (r : SetResult) → takes r ≡ false → rejected ≡ fate_of_result r
+not_taken result.Accepted is = cc
+not_taken result.Noted is = cc
+not_taken result.Rejected is = refl
 
 -- one listed set
 one_listed : (all : List KeyedSet) (k : KeyedSet) (v : TransactionSetVerdict) → find (λ j. bytes_eq j.number k.number) all ≡ Some k → v.number ≡ k.number → listed_evidence all (told_set v) ≡ set_told k v
-one_listed all k v found number = rw (number, found) (ap (tells k.key) (fate_told (set_is_accepted v)))
+one_listed all k v found number = rw (number, found) (ap (tells k.key) (fate_told v.result))
 
 -- each listed set
 listed_told : (all ks : List KeyedSet) (vs : List TransactionSetVerdict) → AllByRecursion (λ k. find (λ j. bytes_eq j.number k.number) all ≡ Some k) ks → map (λ v. v.number) vs ≡ map (λ k. k.number) ks → map (listed_evidence all) (map told_set vs) ≡ map (λ p. set_told p.0 p.1) (zip ks vs)
@@ -67,16 +75,18 @@ none_accepted (k ∷ ks) [] numbers none = absurd (cc)
 none_accepted (k ∷ ks) (v ∷ vs) numbers none =
     let tail : map (λ v. v.number) vs ≡ map (λ k. k.number) ks = cc in
     let split = split_count (set_is_accepted v) (count_by set_is_accepted vs) (sym (sum_by-cons (λ x. cond (set_is_accepted x) 1 0) v vs) ∙ none) in
-    rw (split.0, none_accepted ks vs tail split.1) refl
+    ap₂ (λ fate es. tells k.key fate ∷ es) (not_taken v.result split.0) (none_accepted ks vs tail split.1)
 
 -- the evidence by AK901 and the listed sets
-by_code : (rejects all none : Bool) (ks : List KeyedSet) (vs : List TransactionSetVerdict) → AllByRecursion (λ k. find (λ j. bytes_eq j.number k.number) ks ≡ Some k) ks → (rejects ≡ false → map (λ v. v.number) vs ≡ map (λ k. k.number) ks) → (none ≡ true → count_by set_is_accepted vs ≡ 0) → group_evidence (unwrap_or (first_of_rows ((rejects, Rejected) ∷ (all, Accepted) ∷ (none, Rejected) ∷ [])) PartiallyAccepted) (map told_set vs) ks ≡ (if rejects then tells_each rejected ks else map (λ p. set_told p.0 p.1) (zip ks vs))
+by_code : (rejects all noted none : Bool) (ks : List KeyedSet) (vs : List TransactionSetVerdict) → AllByRecursion (λ k. find (λ j. bytes_eq j.number k.number) ks ≡ Some k) ks → (rejects ≡ false → map (λ v. v.number) vs ≡ map (λ k. k.number) ks) → (none ≡ true → count_by set_is_accepted vs ≡ 0) → group_evidence (group_code_by rejects all noted none) (map told_set vs) ks ≡ (if rejects then tells_each rejected ks else map (λ p. set_told p.0 p.1) (zip ks vs))
 unfolding group_evidence
-by_code true all none ks vs found numbers nil = refl
-by_code false true none ks vs found numbers nil =
+by_code true all noted none ks vs found numbers nil = refl
+by_code false true true none ks vs found numbers nil =
     rw (listed_told ks ks vs found (numbers refl), none_unlisted vs ks (numbers refl)) (append-nil _)
-by_code false false true ks vs found numbers nil = none_accepted ks vs (numbers refl) (nil refl)
-by_code false false false ks vs found numbers nil = listed_told ks ks vs found (numbers refl)
+by_code false true false none ks vs found numbers nil =
+    rw (listed_told ks ks vs found (numbers refl), none_unlisted vs ks (numbers refl)) (append-nil _)
+by_code false false noted true ks vs found numbers nil = none_accepted ks vs (numbers refl) (nil refl)
+by_code false false noted false ks vs found numbers nil = listed_told ks ks vs found (numbers refl)
 
 -- the same number
 abbrev pub same_set : KeyedSet → KeyedSet → Bool
@@ -92,6 +102,6 @@ pub record IsVerdictOf (k : KeyedGroup) (v : FunctionalGroupVerdict) : Type 0 wh
 
 pub told_by_group : (k : KeyedGroup) (v : FunctionalGroupVerdict) → IsVerdictOf k v → group_evidence (group_code_of v) (map told_set v.sets) k.sets ≡ group_told k v
 told_by_group k v is =
-    by_code (is_some v.refused) (v.accepted == length v.sets) (v.accepted == 0) k.sets v.sets
+    by_code (is_some v.refused) (v.accepted == length v.sets) (some_are_noted v.sets) (v.accepted == 0) k.sets v.sets
     (each_found same_set k.sets is.distinct (all_true (λ s. same_set s s ≡ true) (λ s. bytes_eq_itself s.number) k.sets)) is.numbers
     (λ none. sym is.accepted ∙ (Decides-eqb v.accepted 0).0 none)

@@ -28,7 +28,7 @@ use Rattle.x12_envelopes.proofs.NumberLemmas.{number_decimal}
 use Rattle.x12_envelopes.proofs.OutlineBackLemmas.{limits}
 use Rattle.x12_envelopes.proofs.WrittenKindLemmas.{free_element, filled_by_length, filled_number}
 use Rattle.x12_envelopes.proofs.WrittenLengthLemmas.{length_padded}
-use Rattle.x12_judge.specs.Agreement.{TradingAgreement, set_is_agreed}
+use Rattle.x12_judge.specs.Agreement.{TradingAgreement, set_is_agreed, partner_is_lenient}
 use Rattle.x12_judge.specs.Set.{verdict_of_set}
 use Rattle.x12_judge.specs.Group.{FunctionalGroupVerdict, refusal_of_group, verdicts_of_sets, verdict_of_group}
 use Rattle.x12_judge.specs.Interchange.{Reading, note_of_interchange}
@@ -41,19 +41,19 @@ use Rattle.x12_acks.proofs.WritableAnswerLemmas.{FitsSet, FitsGroup, answers_fit
 
 -- The verdict of an interchange that was read.
 
-set_fits : (d : Delims) (agreed : Bool) (earlier : List TransactionSet) (s : TransactionSet) → bytes_are_delimiters d ≡ true → text_has_length 4 9 s.number ≡ true → IsWritableSet d s → FitsSet d (verdict_of_set d agreed earlier s)
+set_fits : (d : Delims) (agreed lenient : Bool) (earlier : List TransactionSet) (s : TransactionSet) → bytes_are_delimiters d ≡ true → text_has_length 4 9 s.number ≡ true → IsWritableSet d s → FitsSet d (verdict_of_set d agreed lenient earlier s)
 unfolding verdict_of_set
-set_fits d agreed earlier s good long is = record {
+set_fits d agreed lenient earlier s good long is = record {
   set = is.set;
   number = is.number;
   filled = filled_by_length s.number (omega (arith, leb-true 4 (length s.number) (and_parts _ _ long).0));
-  notes = verdict_notes_writable d agreed earlier s good is;
+  notes = verdict_notes_writable d agreed lenient earlier s good is;
 }
 
-sets_fit : (d : Delims) (agreed : List ℕ → Bool) (all : List TransactionSet) (n : ℕ) (sets : List TransactionSet) → bytes_are_delimiters d ≡ true → AllByRecursion (λ s. text_has_length 4 9 s.number ≡ true) sets → AllByRecursion (IsWritableSet d) sets → AllByRecursion (FitsSet d) (map (λ place. verdict_of_set d (agreed place.1.set) (take place.0 all) place.1) (enumerate_from n sets))
-sets_fit d agreed all n [] good long are = tt
-sets_fit d agreed all n (s ∷ sets) good long are =
-    (set_fits d (agreed s.set) (take n all) s good long.0 are.0, sets_fit d agreed all (n + 1) sets good long.1 are.1)
+sets_fit : (d : Delims) (agreed : List ℕ → Bool) (lenient : Bool) (all : List TransactionSet) (n : ℕ) (sets : List TransactionSet) → bytes_are_delimiters d ≡ true → AllByRecursion (λ s. text_has_length 4 9 s.number ≡ true) sets → AllByRecursion (IsWritableSet d) sets → AllByRecursion (FitsSet d) (map (λ place. verdict_of_set d (agreed place.1.set) lenient (take place.0 all) place.1) (enumerate_from n sets))
+sets_fit d agreed lenient all n [] good long are = tt
+sets_fit d agreed lenient all n (s ∷ sets) good long are =
+    (set_fits d (agreed s.set) lenient (take n all) s good long.0 are.0, sets_fit d agreed lenient all (n + 1) sets good long.1 are.1)
 
 unless : {X : Type 0} (P : X → Type 0) (b : Bool) (xs : List X) → AllByRecursion P xs → AllByRecursion P (if b then [] else xs)
 unless P true xs all = tt
@@ -67,7 +67,7 @@ group_fits agreements partner d place g good readable is = record {
   receiver = is.receiver;
   number_text = is.number_text;
   filled = filled_number g.number_text (ap is_some readable.number);
-  sets = unless (FitsSet d) (is_some (refusal_of_group agreements partner g)) _ (sets_fit d (set_is_agreed agreements partner g.functional) g.sets 0 g.sets good readable.sets is.sets);
+  sets = unless (FitsSet d) (is_some (refusal_of_group agreements partner g)) _ (sets_fit d (set_is_agreed agreements partner g.functional) (partner_is_lenient agreements partner) g.sets 0 g.sets good readable.sets is.sets);
 }
 
 groups_fit : (agreements : List TradingAgreement) (partner : Party) (d : Delims) (n : ℕ) (gs : List FunctionalGroup) → bytes_are_delimiters d ≡ true → AllByRecursion IsReadable gs → AllByRecursion (IsWritableGroup d) gs → AllByRecursion (FitsGroup d) (map (λ place. verdict_of_group agreements partner d place.0 place.1) (filter (λ place. not (group_is_acknowledgment place.1)) (enumerate_from n gs)))

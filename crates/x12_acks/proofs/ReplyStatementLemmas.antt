@@ -1,5 +1,5 @@
 -- What the segments of a reply state.
-use Rattle.std.proofs.Common.{◌≡◌, ◌++◌, ◌∷◌, [], List, ℕ, Bool, true, false, map, option_map, unwrap_or, flat_map, if◌then◌else◌, ◌==◌, length, codes, refl, ap, append_assoc, ◌∙◌, is_some}
+use Rattle.std.proofs.Common.{◌≡◌, ◌++◌, ◌∷◌, [], List, ℕ, Bool, true, false, map, option_map, unwrap_or, flat_map, ◌==◌, ◌&&◌, length, codes, refl, ap, append_assoc, ◌∙◌, is_some}
 use Rattle.std.proofs.lemmas.List.{map-append}
 use Rattle.std.specs.Prelude.{Some}
 use Rattle.std.specs.List.{AllByRecursion}
@@ -7,21 +7,34 @@ use Rattle.x12_envelopes.specs.Row.{first_of_rows}
 use Rattle.x12_envelopes.specs.Byte.{number_of_digits, zero_padded_number, text_has_length}
 use Rattle.x12_envelopes.specs.Segment.{Segment}
 use Rattle.x12_envelopes.specs.Envelope.{set_segments}
-use Rattle.x12_judge.specs.Set.{TransactionSetVerdict, ReportedNote, segment, element, set_is_accepted}
+use Rattle.x12_judge.specs.declared.verdict.SetResult.{SetResult}
+use Rattle.x12_judge.specs.declared.verdict.SetResult.TheVariants as result
+use Rattle.x12_judge.specs.Set.{TransactionSetVerdict, ReportedNote, segment, element}
 use Rattle.x12_judge.specs.Group.{FunctionalGroupVerdict}
 use Rattle.x12_acks.specs.declared.answer.AnswerCode.{AnswerCode}
-use Rattle.x12_acks.specs.declared.answer.AnswerCode.TheVariants.{Accepted, Rejected, PartiallyAccepted}
-use Rattle.x12_acks.specs.Reply.{note_segment, ak5_segment, set_answer, code_of_group, ak9_segment, group_answer}
+use Rattle.x12_acks.specs.declared.answer.AnswerCode.TheVariants.{Accepted, ErrorsNoted, Rejected, PartiallyAccepted}
+use Rattle.x12_acks.specs.Reply.{note_segment, ak5_segment, set_answer, code_of_group, ak9_segment, group_answer, code_of_result, some_are_noted}
 use Rattle.x12_acks.specs.Statement.{Statement, st, ak1, ak2, ak3, ak4, ak5, ak9, se, statement_of, statement_by, st_statement, ak1_statement, ak2_statement, ak5_statement, ak9_statement, set_answer_code, group_answer_code}
 use Rattle.x12_acks.specs.Answer.{between, in_set, TransactionSetAnswer, FunctionalGroupAnswer, with_listed_set, listed_from, group_answer_of, of_group, answer_of, unclear}
 
 -- AK501 and AK901 as they are written
+abbrev pub code_written : SetResult → AnswerCode
+code_written result.Accepted = Accepted
+code_written result.Noted = ErrorsNoted
+code_written result.Rejected = Rejected
+
 abbrev pub set_code_of : TransactionSetVerdict → AnswerCode
-set_code_of v = if set_is_accepted v then Accepted else Rejected
+set_code_of v = code_written v.result
+
+-- AK901, where the group is refused, where all its sets are accepted, in some of them errors were noted, or none is
+-- accepted
+abbrev pub group_code_by : Bool → Bool → Bool → Bool → AnswerCode
+group_code_by refused all noted none =
+    unwrap_or (first_of_rows ((refused, Rejected) ∷ (all && noted, ErrorsNoted) ∷ (all, Accepted) ∷ (none, Rejected) ∷ [])) PartiallyAccepted
 
 abbrev pub group_code_of : FunctionalGroupVerdict → AnswerCode
 group_code_of v =
-    unwrap_or (first_of_rows ((is_some v.refused, Rejected) ∷ (v.accepted == length v.sets, Accepted) ∷ (v.accepted == 0, Rejected) ∷ [])) PartiallyAccepted
+    group_code_by (is_some v.refused) (v.accepted == length v.sets) (some_are_noted v.sets) (v.accepted == 0)
 
 abbrev pub told_set : TransactionSetVerdict → TransactionSetAnswer
 told_set v = record { number = v.number; code = set_code_of v }
@@ -50,24 +63,26 @@ unfolding statement_of statement_by
 states_note (segment name position code) = refl
 states_note (element n) = refl
 
-ak5_by : (accepted : Bool) (rejection : Segment) → statement_of (codes "AK5" ∷ (if accepted then codes "A" ∷ [] else codes "R" ∷ rejection)) ≡ ak5 (if accepted then Accepted else Rejected)
+ak5_by : (r : SetResult) (more : Segment) → statement_of (codes "AK5" ∷ code_of_result r ∷ more) ≡ ak5 (code_written r)
 unfolding statement_of statement_by ak5_statement set_answer_code
-ak5_by true rejection = refl
-ak5_by false rejection = refl
+ak5_by result.Accepted more = refl
+ak5_by result.Noted more = refl
+ak5_by result.Rejected more = refl
 
 states_ak5 : (v : TransactionSetVerdict) → statement_of (ak5_segment v) ≡ ak5 (set_code_of v)
-states_ak5 v = ak5_by (set_is_accepted v) _
+states_ak5 v = ak5_by v.result _
 
-ak9_by : (refused all none : Bool) → ak9_statement (unwrap_or (first_of_rows ((refused, codes "R") ∷ (all, codes "A") ∷ (none, codes "R") ∷ [])) (codes "P")) ≡ ak9 (unwrap_or (first_of_rows ((refused, Rejected) ∷ (all, Accepted) ∷ (none, Rejected) ∷ [])) PartiallyAccepted)
+ak9_by : (refused all noted none : Bool) → ak9_statement (unwrap_or (first_of_rows ((refused, codes "R") ∷ (all && noted, codes "E") ∷ (all, codes "A") ∷ (none, codes "R") ∷ [])) (codes "P")) ≡ ak9 (group_code_by refused all noted none)
 unfolding ak9_statement set_answer_code group_answer_code
-ak9_by true all none = refl
-ak9_by false true none = refl
-ak9_by false false true = refl
-ak9_by false false false = refl
+ak9_by true all noted none = refl
+ak9_by false true true none = refl
+ak9_by false true false none = refl
+ak9_by false false noted true = refl
+ak9_by false false noted false = refl
 
 states_ak9 : (v : FunctionalGroupVerdict) → statement_of (ak9_segment v) ≡ ak9 (group_code_of v)
 unfolding statement_of statement_by ak9_statement set_answer_code group_answer_code code_of_group
-states_ak9 v = ak9_by (is_some v.refused) (v.accepted == length v.sets) (v.accepted == 0)
+states_ak9 v = ak9_by (is_some v.refused) (v.accepted == length v.sets) (some_are_noted v.sets) (v.accepted == 0)
 
 states_se : (count number : List ℕ) → statement_of (codes "SE" ∷ count ∷ number ∷ []) ≡ se
 unfolding statement_of statement_by

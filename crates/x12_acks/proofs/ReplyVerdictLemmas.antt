@@ -6,7 +6,7 @@ use Rattle.x12_envelopes.specs.declared.delimiters.Delims.{Delims}
 use Rattle.x12_envelopes.specs.declared.party.Party.{Party}
 use Rattle.x12_envelopes.specs.Byte.{text_has_length}
 use Rattle.x12_envelopes.specs.Shape.{FunctionalGroup, TransactionSet}
-use Rattle.x12_judge.specs.Agreement.{TradingAgreement, set_is_agreed}
+use Rattle.x12_judge.specs.Agreement.{TradingAgreement, set_is_agreed, partner_is_lenient}
 use Rattle.x12_judge.specs.Segment.{SegmentNote}
 use Rattle.x12_judge.specs.Set.{TransactionSetVerdict, verdict_of_set, notes_of_set, reported}
 use Rattle.x12_judge.specs.Group.{verdict_of_group, refusal_of_group, verdicts_of_sets}
@@ -23,22 +23,22 @@ noted : (notes : List SegmentNote) → IsNoted (take 8 (flat_map reported notes)
 noted [] = tt
 noted (n ∷ notes) = tt
 
-abbrev pub verdicts_from : Delims → (TransactionSet → Bool) → List TransactionSet → ℕ → List TransactionSet → List TransactionSetVerdict
-verdicts_from d agreed all n ss = map (λ place. verdict_of_set d (agreed place.1) (take place.0 all) place.1) (enumerate_from n ss)
+abbrev pub verdicts_from : Delims → (TransactionSet → Bool) → Bool → List TransactionSet → ℕ → List TransactionSet → List TransactionSetVerdict
+verdicts_from d agreed lenient all n ss = map (λ place. verdict_of_set d (agreed place.1) lenient (take place.0 all) place.1) (enumerate_from n ss)
 
 abbrev pub keyed_from : Submission → ℕ → ℕ → List TransactionSet → List KeyedSet
 keyed_from e group m ss = map (λ s. keyed_set e group s.0 s.1) (enumerate_from m (map submitted_set ss))
 
-sets_told : (d : Delims) (agreed : TransactionSet → Bool) (all : List TransactionSet) (n : ℕ) (ss : List TransactionSet) → AllByRecursion (λ s. text_has_length 4 9 s.number ≡ true) ss → AllByRecursion IsTold (verdicts_from d agreed all n ss)
+sets_told : (d : Delims) (agreed : TransactionSet → Bool) (lenient : Bool) (all : List TransactionSet) (n : ℕ) (ss : List TransactionSet) → AllByRecursion (λ s. text_has_length 4 9 s.number ≡ true) ss → AllByRecursion IsTold (verdicts_from d agreed lenient all n ss)
 unfolding verdict_of_set
-sets_told d agreed all n [] fit = tt
-sets_told d agreed all n (s ∷ ss) fit =
-    (record { number = fit.0; notes = noted (notes_of_set d (agreed s) s) }, sets_told d agreed all (n + 1) ss fit.1)
+sets_told d agreed lenient all n [] fit = tt
+sets_told d agreed lenient all n (s ∷ ss) fit =
+    (record { number = fit.0; notes = noted (notes_of_set d (agreed s) s) }, sets_told d agreed lenient all (n + 1) ss fit.1)
 
-sets_numbered : (d : Delims) (agreed : TransactionSet → Bool) (all : List TransactionSet) (e : Submission) (group n m : ℕ) (ss : List TransactionSet) → map (λ s. s.number) (verdicts_from d agreed all n ss) ≡ map (λ s. s.number) (keyed_from e group m ss)
+sets_numbered : (d : Delims) (agreed : TransactionSet → Bool) (lenient : Bool) (all : List TransactionSet) (e : Submission) (group n m : ℕ) (ss : List TransactionSet) → map (λ s. s.number) (verdicts_from d agreed lenient all n ss) ≡ map (λ s. s.number) (keyed_from e group m ss)
 unfolding verdict_of_set
-sets_numbered d agreed all e group n m [] = refl
-sets_numbered d agreed all e group n m (s ∷ ss) = ap (λ ns. s.number ∷ ns) (sets_numbered d agreed all e group (n + 1) (m + 1) ss)
+sets_numbered d agreed lenient all e group n m [] = refl
+sets_numbered d agreed lenient all e group n m (s ∷ ss) = ap (λ ns. s.number ∷ ns) (sets_numbered d agreed lenient all e group (n + 1) (m + 1) ss)
 
 keyed_sets_all : (P : List ℕ → Type 0) (e : Submission) (group m : ℕ) (ss : List TransactionSet) → AllByRecursion (λ s. P s.number) ss → AllByRecursion (λ k. P k.number) (keyed_from e group m ss)
 keyed_sets_all P e group m [] all = tt
@@ -62,22 +62,24 @@ pub group_is_told : (agreements : List TradingAgreement) (partner : Party) (d : 
 unfolding verdict_of_group verdicts_of_sets
 group_is_told agreements partner d n g read =
     let agreed : TransactionSet → Bool = λ s. set_is_agreed agreements partner g.functional s.set in
+    let lenient : Bool = partner_is_lenient agreements partner in
     let refused : Bool = is_some (refusal_of_group agreements partner g) in
     record {
       functional = read.functional;
       number = read.number;
-      sets = unless_refused refused (verdicts_from d agreed g.sets 0 g.sets) (sets_told d agreed g.sets 0 g.sets read.sets);
+      sets = unless_refused refused (verdicts_from d agreed lenient g.sets 0 g.sets) (sets_told d agreed lenient g.sets 0 g.sets read.sets);
     }
 
 group_judged : (agreements : List TradingAgreement) (partner : Party) (d : Delims) (e : Submission) (n : ℕ) (g : FunctionalGroup) → IsReadable g → HasDistinctSets g → IsVerdictOf (keyed_group e n (submitted_group g)) (verdict_of_group agreements partner d n g)
 unfolding verdict_of_group verdicts_of_sets
 group_judged agreements partner d e n g read distinct =
     let agreed : TransactionSet → Bool = λ s. set_is_agreed agreements partner g.functional s.set in
+    let lenient : Bool = partner_is_lenient agreements partner in
     let refused : Bool = is_some (refusal_of_group agreements partner g) in
     record {
       told = group_is_told agreements partner d n g read;
       functional = refl;
-      numbers = numbered_by refused (verdicts_from d agreed g.sets 0 g.sets) (keyed_from e n 1 g.sets) (sets_numbered d agreed g.sets e n 0 1 g.sets);
+      numbers = numbered_by refused (verdicts_from d agreed lenient g.sets 0 g.sets) (keyed_from e n 1 g.sets) (sets_numbered d agreed lenient g.sets e n 0 1 g.sets);
       accepted = refl;
       distinct = sets_distinct e n 1 g.sets distinct;
     }

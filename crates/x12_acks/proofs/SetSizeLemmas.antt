@@ -1,5 +1,5 @@
 -- How many bytes a transaction set's part of a 997 takes.
-use Rattle.std.proofs.Common.{◌≤◌, ◌<◌, ℕ, ◌+◌, ◌*◌, Bool, true, false, List, [], ◌∷◌, length, map, decimal, if◌then◌else◌, codes, arith, flat_map}
+use Rattle.std.proofs.Common.{◌≤◌, ◌<◌, ℕ, ◌+◌, ◌*◌, List, [], ◌∷◌, length, map, decimal, codes, arith, flat_map}
 use Rattle.std.specs.List.{AllByRecursion}
 use Rattle.x12_envelopes.specs.declared.delimiters.Delims.{Delims}
 use Rattle.x12_envelopes.specs.Segment.{Segment, segment_text}
@@ -11,8 +11,10 @@ use Rattle.x12_judge.specs.declared.verdict.ElementCode.{ElementCode}
 use Rattle.x12_judge.specs.declared.verdict.ElementCode.TheVariants as elem
 use Rattle.x12_judge.specs.Code.{set_code_number, segment_code_number, element_code_number}
 use Rattle.x12_judge.specs.Segment.{ElementNote}
-use Rattle.x12_judge.specs.Set.{TransactionSetVerdict, set_is_accepted, ReportedNote, segment, element}
-use Rattle.x12_acks.specs.Reply.{code_of_set, segment_code, element_code, unless_empty, ak3_segment, ak4_segment, note_segment, ak5_segment, set_answer}
+use Rattle.x12_judge.specs.declared.verdict.SetResult.{SetResult}
+use Rattle.x12_judge.specs.declared.verdict.SetResult.TheVariants.{Accepted, Noted, Rejected}
+use Rattle.x12_judge.specs.Set.{TransactionSetVerdict, ReportedNote, segment, element}
+use Rattle.x12_acks.specs.Reply.{code_of_result, code_of_set, segment_code, element_code, unless_empty, ak3_segment, ak4_segment, note_segment, ak5_segment, set_answer}
 use Rattle.x12_acks.proofs.SizeLemmas.{sized, text_sized, text_size, size-cons, size-append, size_between, short_decimal}
 
 -- an element's note: place and reference of few digits, and a copy that was cut
@@ -89,15 +91,15 @@ codes_sized : (cs : List SetCode) → sized (map code_of_set cs) ≤ 3 * length 
 codes_sized [] = omega arith
 codes_sized (c ∷ cs) = omega (arith, two_digits (set_code_number c) (set_below c), codes_sized cs)
 
-either_sized : (b : Bool) (x y : Segment) (most : ℕ) → sized x ≤ most → sized y ≤ most → sized (if b then x else y) ≤ most
-either_sized true x y most first second = first
-either_sized false x y most first second = second
+letter_sized : (r : SetResult) → length (code_of_result r) ≤ 1
+letter_sized Accepted = omega arith
+letter_sized Noted = omega arith
+letter_sized Rejected = omega arith
 
 ak5_size : (d : Delims) (v : TransactionSetVerdict) → length v.codes ≤ 6 → length (segment_text d (ak5_segment v)) ≤ 24
 ak5_size d v few =
-    let whole = text_sized d (codes "AK5") (if set_is_accepted v then codes "A" ∷ [] else codes "R" ∷ map code_of_set v.codes) in
-    let code = either_sized (set_is_accepted v) (codes "A" ∷ []) (codes "R" ∷ map code_of_set v.codes) 20 (omega arith) (omega (arith, codes_sized v.codes, few)) in
-    omega (arith, whole, code)
+    let whole = text_sized d (codes "AK5") (code_of_result v.result ∷ map code_of_set v.codes) in
+    omega (arith, whole, letter_sized v.result, codes_sized v.codes, few)
 
 -- AK2, at most eight notes, AK5
 set_size : (d : Delims) (v : TransactionSetVerdict) → IsShortSet v → text_size d (set_answer v) ≤ 975

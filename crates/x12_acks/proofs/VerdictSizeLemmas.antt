@@ -7,7 +7,7 @@ use Rattle.x12_envelopes.specs.declared.party.Party.{Party}
 use Rattle.x12_envelopes.specs.declared.delimiters.Delims.{Delims}
 use Rattle.x12_envelopes.specs.Shape.{TransactionSet, FunctionalGroup, FunctionalGroupTrailer}
 use Rattle.x12_judge.specs.declared.verdict.SetCode.TheVariants.{NotSupported, TrailerMissing, NumbersDiffer, CountWrong, SegmentsInError, NumberNotUnique}
-use Rattle.x12_judge.specs.Agreement.{TradingAgreement, set_is_agreed}
+use Rattle.x12_judge.specs.Agreement.{TradingAgreement, set_is_agreed, partner_is_lenient}
 use Rattle.x12_judge.specs.Interchange.{value_is_number}
 use Rattle.x12_judge.specs.Set.{TransactionSetVerdict, reported, notes_of_set, trailer_says, is_repeated, codes_by, codes_of_set, verdict_of_set, set_is_accepted}
 use Rattle.x12_judge.specs.Group.{FunctionalGroupVerdict, refusal_of_group, verdicts_of_sets, short_count_of, verdict_of_group}
@@ -44,9 +44,9 @@ six_codes d agreed earlier s =
     ∷ (is_repeated earlier s, NumberNotUnique)
     ∷ [])
 
-set_short : (d : Delims) (agreed : Bool) (earlier : List TransactionSet) (s : TransactionSet) → IsShortRead s → IsShortSet (verdict_of_set d agreed earlier s)
+set_short : (d : Delims) (agreed lenient : Bool) (earlier : List TransactionSet) (s : TransactionSet) → IsShortRead s → IsShortSet (verdict_of_set d agreed lenient earlier s)
 unfolding verdict_of_set
-set_short d agreed earlier s short = record {
+set_short d agreed lenient earlier s short = record {
   set' = short.set';
   number = short.number;
   codes' = six_codes d agreed earlier s;
@@ -54,17 +54,17 @@ set_short d agreed earlier s short = record {
   notes = notes_short d agreed s short.parts;
 }
 
-abbrev verdicts_from : Delims → (TransactionSet → Bool) → List TransactionSet → ℕ → List TransactionSet → List TransactionSetVerdict
-verdicts_from d agreed all n ss = map (λ place. verdict_of_set d (agreed place.1) (take place.0 all) place.1) (enumerate_from n ss)
+abbrev verdicts_from : Delims → (TransactionSet → Bool) → Bool → List TransactionSet → ℕ → List TransactionSet → List TransactionSetVerdict
+verdicts_from d agreed lenient all n ss = map (λ place. verdict_of_set d (agreed place.1) lenient (take place.0 all) place.1) (enumerate_from n ss)
 
-sets_short : (d : Delims) (agreed : TransactionSet → Bool) (all : List TransactionSet) (n : ℕ) (ss : List TransactionSet) → AllByRecursion IsShortRead ss → AllByRecursion IsShortSet (verdicts_from d agreed all n ss)
-sets_short d agreed all n [] short = tt
-sets_short d agreed all n (s ∷ ss) short =
-    (set_short d (agreed s) (take n all) s short.0, sets_short d agreed all (n + 1) ss short.1)
+sets_short : (d : Delims) (agreed : TransactionSet → Bool) (lenient : Bool) (all : List TransactionSet) (n : ℕ) (ss : List TransactionSet) → AllByRecursion IsShortRead ss → AllByRecursion IsShortSet (verdicts_from d agreed lenient all n ss)
+sets_short d agreed lenient all n [] short = tt
+sets_short d agreed lenient all n (s ∷ ss) short =
+    (set_short d (agreed s) lenient (take n all) s short.0, sets_short d agreed lenient all (n + 1) ss short.1)
 
-as_many : (d : Delims) (agreed : TransactionSet → Bool) (all : List TransactionSet) (n : ℕ) (ss : List TransactionSet) → length (verdicts_from d agreed all n ss) ≤ length ss
-as_many d agreed all n [] = omega arith
-as_many d agreed all n (s ∷ ss) = omega (arith, as_many d agreed all (n + 1) ss)
+as_many : (d : Delims) (agreed : TransactionSet → Bool) (lenient : Bool) (all : List TransactionSet) (n : ℕ) (ss : List TransactionSet) → length (verdicts_from d agreed lenient all n ss) ≤ length ss
+as_many d agreed lenient all n [] = omega arith
+as_many d agreed lenient all n (s ∷ ss) = omega (arith, as_many d agreed lenient all (n + 1) ss)
 
 -- no verdict of a set where the group is refused
 unless_refused : (b : Bool) (vs : List TransactionSetVerdict) → AllByRecursion IsShortSet vs → AllByRecursion IsShortSet (if b then [] else vs)
@@ -92,9 +92,10 @@ group_short : (agreements : List TradingAgreement) (partner : Party) (d : Delims
 unfolding verdict_of_group verdicts_of_sets
 group_short agreements partner d place g few short =
     let agreed : TransactionSet → Bool = λ s. set_is_agreed agreements partner g.functional s.set in
+    let lenient : Bool = partner_is_lenient agreements partner in
     let refused : Bool = is_some (refusal_of_group agreements partner g) in
-    let sets : List TransactionSetVerdict = if refused then [] else verdicts_from d agreed g.sets 0 g.sets in
-    let most = no_more refused (verdicts_from d agreed g.sets 0 g.sets) (length g.sets) (as_many d agreed g.sets 0 g.sets) in
+    let sets : List TransactionSetVerdict = if refused then [] else verdicts_from d agreed lenient g.sets 0 g.sets in
+    let most = no_more refused (verdicts_from d agreed lenient g.sets 0 g.sets) (length g.sets) (as_many d agreed lenient g.sets 0 g.sets) in
     record {
       functional = short.functional;
       sender = short.sender;
@@ -103,7 +104,7 @@ group_short agreements partner d place g few short =
       included = included_short g.trailer (length g.sets) (omega (arith, few)) short.count;
       received = omega (arith, few);
       accepted = omega (arith, few, most, count_by-le-length set_is_accepted sets);
-      sets = unless_refused refused (verdicts_from d agreed g.sets 0 g.sets) (sets_short d agreed g.sets 0 g.sets short.sets);
+      sets = unless_refused refused (verdicts_from d agreed lenient g.sets 0 g.sets) (sets_short d agreed lenient g.sets 0 g.sets short.sets);
     }
 
 -- verdicts of at most so many groups, with at most so many sets in all

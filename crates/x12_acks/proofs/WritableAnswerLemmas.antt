@@ -1,5 +1,5 @@
 -- The 997 of a functional group can be written.
-use Rattle.std.proofs.Common.{◌≡◌, ℕ, ◌+◌, ◌≤◌, Bool, true, false, ◌==◌, List, [], ◌∷◌, length, map, flat_map, if◌then◌else◌, Option, Some, None, is_some, unwrap_or, option_map, codes, decimal, refl, ◌∙◌, arith}
+use Rattle.std.proofs.Common.{◌≡◌, ℕ, ◌+◌, ◌≤◌, Bool, true, false, ◌==◌, ◌&&◌, List, [], ◌∷◌, length, map, flat_map, Option, Some, None, is_some, unwrap_or, option_map, codes, decimal, refl, ◌∙◌, arith}
 use Rattle.std.specs.Option.{option_to_list}
 use Rattle.std.specs.List.{AllByRecursion, list_all, enumerate_from}
 use Rattle.x12_envelopes.specs.declared.delimiters.Delims.{Delims}
@@ -20,9 +20,11 @@ use Rattle.x12_envelopes.proofs.WrittenLengthLemmas.{length_padded}
 use Rattle.x12_judge.specs.declared.verdict.SetCode.{SetCode}
 use Rattle.x12_judge.specs.declared.verdict.GroupRefusal.{GroupRefusal}
 use Rattle.x12_judge.specs.Code.{set_code_number, group_refusal_number, segment_code_number, element_code_number}
-use Rattle.x12_judge.specs.Set.{ReportedNote, segment, element, TransactionSetVerdict, set_is_accepted}
+use Rattle.x12_judge.specs.declared.verdict.SetResult.{SetResult}
+use Rattle.x12_judge.specs.declared.verdict.SetResult.TheVariants.{Accepted, Noted, Rejected}
+use Rattle.x12_judge.specs.Set.{ReportedNote, segment, element, TransactionSetVerdict}
 use Rattle.x12_judge.specs.Group.{FunctionalGroupVerdict}
-use Rattle.x12_acks.specs.Reply.{code_of_set, refusal_code, unless_empty, note_segment, ak5_segment, set_answer, code_of_group, ak9_segment, group_answer}
+use Rattle.x12_acks.specs.Reply.{code_of_set, refusal_code, unless_empty, note_segment, ak5_segment, set_answer, code_of_group, ak9_segment, group_answer, code_of_result, some_are_noted}
 use Rattle.x12_acks.proofs.WritableTextLemmas.{decimal_writable, decimal_filled, digits_writable, padded_digits}
 use Rattle.x12_acks.proofs.WritableNoteLemmas.{joined_all, no_element, is_reported_note}
 use Rattle.x12_envelopes.specs.declared.content.Kind.TheVariants.{Data}
@@ -79,12 +81,22 @@ codes_filled : (e : List ℕ) (cs : List SetCode) → is_filled e ≡ true → s
 codes_filled e [] filled = filled
 codes_filled e (c ∷ cs) filled = codes_filled (code_of_set c) cs (decimal_filled (set_code_number c))
 
-ak5_by : (d : Delims) (accepted : Bool) (cs : List SetCode) → bytes_are_delimiters d ≡ true → data_is_writable d (codes "AK5" ∷ (if accepted then codes "A" ∷ [] else codes "R" ∷ map code_of_set cs)) ≡ true
+letter_writable : (d : Delims) (r : SetResult) → bytes_are_delimiters d ≡ true → element_is_writable d (code_of_result r) ≡ true
+letter_writable d Accepted good = free_element d (codes "A") good refl
+letter_writable d Noted good = free_element d (codes "E") good refl
+letter_writable d Rejected good = free_element d (codes "R") good refl
+
+letter_filled : (r : SetResult) → is_filled (code_of_result r) ≡ true
+letter_filled Accepted = refl
+letter_filled Noted = refl
+letter_filled Rejected = refl
+
+ak5_fits : (d : Delims) (r : SetResult) (cs : List SetCode) → bytes_are_delimiters d ≡ true → data_is_writable d (codes "AK5" ∷ code_of_result r ∷ map code_of_set cs) ≡ true
 unfolding kind_of_name
-ak5_by d true cs good =
-    data_segment d (codes "AK5" ∷ codes "A" ∷ []) (rw (free_element d (codes "AK5") good refl, free_element d (codes "A") good refl) refl) refl refl
-ak5_by d false cs good =
-    data_segment d (codes "AK5" ∷ codes "R" ∷ map code_of_set cs) (rw (free_element d (codes "AK5") good refl, free_element d (codes "R") good refl, codes_writable d cs good) refl) (codes_filled (codes "R") cs refl) refl
+ak5_fits d r cs good =
+    data_segment d (codes "AK5" ∷ code_of_result r ∷ map code_of_set cs)
+    (rw (free_element d (codes "AK5") good refl, letter_writable d r good, codes_writable d cs good) refl)
+    (codes_filled (code_of_result r) cs (letter_filled r)) refl
 
 -- what a verdict of a transaction set has, so that its answer can be written
 pub record FitsSet (d : Delims) (v : TransactionSetVerdict) : Type 0 where
@@ -98,18 +110,19 @@ unfolding set_answer
 set_fits d v good is =
     joined_all (data_is_writable d) ((codes "AK2" ∷ v.set ∷ v.number ∷ []) ∷ map note_segment v.notes) (ak5_segment v ∷ [])
     (rw (ak2_fits d v.set v.number good is.set is.number is.filled, notes_fit d v.notes good is.notes) refl)
-    (rw (ak5_by d (set_is_accepted v) v.codes good) refl)
+    (rw (ak5_fits d v.result v.codes good) refl)
 
 sets_fit : (d : Delims) (vs : List TransactionSetVerdict) → bytes_are_delimiters d ≡ true → AllByRecursion (FitsSet d) vs → list_all (data_is_writable d) (flat_map set_answer vs) ≡ true
 sets_fit d [] good are = refl
 sets_fit d (v ∷ vs) good are =
     joined_all (data_is_writable d) (set_answer v) (flat_map set_answer vs) (set_fits d v good are.0) (sets_fit d vs good are.1)
 
-code_writable : (d : Delims) (refused all none : Bool) → bytes_are_delimiters d ≡ true → element_is_writable d (unwrap_or (first_of_rows ((refused, codes "R") ∷ (all, codes "A") ∷ (none, codes "R") ∷ [])) (codes "P")) ≡ true
-code_writable d true all none good = free_element d (codes "R") good refl
-code_writable d false true none good = free_element d (codes "A") good refl
-code_writable d false false true good = free_element d (codes "R") good refl
-code_writable d false false false good = free_element d (codes "P") good refl
+code_writable : (d : Delims) (refused noted all none : Bool) → bytes_are_delimiters d ≡ true → element_is_writable d (unwrap_or (first_of_rows ((refused, codes "R") ∷ (noted, codes "E") ∷ (all, codes "A") ∷ (none, codes "R") ∷ [])) (codes "P")) ≡ true
+code_writable d true noted all none good = free_element d (codes "R") good refl
+code_writable d false true all none good = free_element d (codes "E") good refl
+code_writable d false false true none good = free_element d (codes "A") good refl
+code_writable d false false false true good = free_element d (codes "R") good refl
+code_writable d false false false false good = free_element d (codes "P") good refl
 
 ak9_by : (d : Delims) (code : List ℕ) (included received accepted : ℕ) (refused : Option GroupRefusal) → bytes_are_delimiters d ≡ true → element_is_writable d code ≡ true → data_is_writable d (codes "AK9" ∷ code ∷ decimal included ∷ decimal received ∷ decimal accepted ∷ option_to_list (option_map refusal_code refused)) ≡ true
 unfolding kind_of_name
@@ -141,7 +154,7 @@ st_fits d number good small =
 answer_fits : (d : Delims) (number : ℕ) (v : FunctionalGroupVerdict) → bytes_are_delimiters d ≡ true → number ≤ 9999 → FitsGroup d v → set_is_writable d (group_answer number v) ≡ true
 unfolding set_is_writable group_answer code_of_group
 answer_fits d number v good small is =
-    let ak9 = ak9_by d (code_of_group v) v.included v.received v.accepted v.refused good (code_writable d (is_some v.refused) (v.accepted == length v.sets) (v.accepted == 0) good) in
+    let ak9 = ak9_by d (code_of_group v) v.included v.received v.accepted v.refused good (code_writable d (is_some v.refused) (v.accepted == length v.sets && some_are_noted v.sets) (v.accepted == length v.sets) (v.accepted == 0) good) in
     let segments = joined_all (data_is_writable d) ((codes "AK1" ∷ v.functional ∷ v.number_text ∷ []) ∷ flat_map set_answer v.sets) (ak9_segment v ∷ [])
     (rw (ak1_fits d v.functional v.number_text good is.functional is.number_text is.filled, sets_fit d v.sets good is.sets) refl)
     (rw ak9 refl) in

@@ -163,7 +163,7 @@ all_reported d (n ∷ notes) all =
     let one = and_parts (element_is_writable d n.identifier) (list_all (is_element_note d) n.elements) h.0 in
     joined_all (is_reported_note d) (reported n) (flat_map reported notes) (rw (one.0, elements_reported d n.elements one.1) refl) (all_reported d notes h.1)
 
-pub verdict_notes_writable : (d : Delims) (agreed : Bool) (earlier : List TransactionSet) (s : TransactionSet) → bytes_are_delimiters d ≡ true → IsWritableSet d s → list_all (is_reported_note d) (verdict_of_set d agreed earlier s).notes ≡ true
+pub verdict_notes_writable : (d : Delims) (agreed lenient : Bool) (earlier : List TransactionSet) (s : TransactionSet) → bytes_are_delimiters d ≡ true → IsWritableSet d s → list_all (is_reported_note d) (verdict_of_set d agreed lenient earlier s).notes ≡ true
 unfolding verdict_of_set
-verdict_notes_writable d agreed earlier s good is =
+verdict_notes_writable d agreed lenient earlier s good is =
     (cut (is_reported_note d) 8 (flat_map reported (notes_of_set d agreed s)) (all_reported d (notes_of_set d agreed s) (notes_writable d agreed s good is))).0

@@ -1,10 +1,12 @@
 -- The evidence that answers bring to a sender: which of its submitted transaction sets were
--- accepted or rejected.
+-- accepted, with or without errors noted, or rejected.
 use Rattle.std.specs.Prelude.{ℕ, Bool, ◌&&◌, ◌||◌, not, List, [], ◌∷◌, ◌++◌, map, ◌==◌, Option, unwrap_or, option_map, bytes_eq, find, filter, flat_map}
 use Rattle.std.specs.List.{list_any}
 use Rattle.x12_envelopes.specs.declared.party.Party.{Party}
 use Rattle.x12_envelopes.specs.declared.shape.AcknowledgmentCode.TheVariants as interchange
 use Rattle.x12_judge.specs.Agreement.{is_same_party}
+use Rattle.x12_judge.specs.declared.verdict.SetResult.{SetResult}
+use Rattle.x12_judge.specs.declared.verdict.SetResult.TheVariants as result
 use Rattle.x12_acks.specs.declared.answer.AnswerCode.{AnswerCode}
 use Rattle.x12_acks.specs.declared.answer.AnswerCode.TheVariants.{Accepted, ErrorsNoted, PartiallyAccepted}
 use Rattle.x12_acks.specs.Answer.{Acknowledgment, of_interchange, of_group, unclear, FunctionalGroupAnswer, TransactionSetAnswer}
@@ -12,10 +14,10 @@ use Rattle.x12_acks.specs.Submission.{Submission, TransactionSetKey, KeyedSet, K
 
 -- how a transaction set ends
 pub data FinalFate : Type 0 where
-  accepted rejected : FinalFate
+  accepted noted rejected : FinalFate
 
--- a piece of evidence: that this transaction set was accepted or rejected, or an answer to nothing
--- that was submitted
+-- a piece of evidence: that this transaction set was accepted, accepted with errors noted, or rejected; or
+-- an answer to nothing that was submitted
 pub data Evidence : Type 0 where
   tells : TransactionSetKey → FinalFate → Evidence
   unmatched : Evidence
@@ -24,11 +26,20 @@ pub data Evidence : Type 0 where
 abbrev pub tells_each : FinalFate → List KeyedSet → List Evidence
 tells_each fate sets = map (λ s. tells s.key fate) sets
 
--- AK501: A and E accept, R, M, W and X reject
+-- AK501: A accepts, E accepts with errors noted, and R, M, W and X reject
+abbrev pub result_of_code : AnswerCode → SetResult
+result_of_code Accepted = result.Accepted
+result_of_code ErrorsNoted = result.Noted
+result_of_code code = result.Rejected
+
+-- the fate that a transaction set's sender is told
+abbrev pub fate_of_result : SetResult → FinalFate
+fate_of_result result.Accepted = accepted
+fate_of_result result.Noted = noted
+fate_of_result result.Rejected = rejected
+
 abbrev pub fate_of_code : AnswerCode → FinalFate
-fate_of_code Accepted = accepted
-fate_of_code ErrorsNoted = accepted
-fate_of_code code = rejected
+fate_of_code code = fate_of_result (result_of_code code)
 
 -- a listed transaction set, by its number among those of the group
 abbrev pub listed_evidence : List KeyedSet → TransactionSetAnswer → Evidence

@@ -11,28 +11,27 @@ use Rattle.x12_envelopes.specs.Outline.{outline_of}
 use Rattle.x12_envelopes.specs.Envelope.{written}
 use Rattle.x12_envelopes.specs.Shape.{Interchange, FunctionalGroup, TransactionSet}
 use Rattle.x12_judge.specs.Agreement.{TradingAgreement}
+use Rattle.x12_judge.specs.declared.verdict.SetResult.{SetResult}
+use Rattle.x12_judge.specs.declared.verdict.SetResult.TheVariants.{Rejected}
+use Rattle.x12_judge.specs.Set.{takes, is_noted}
 use Rattle.x12_judge.specs.Group.{FunctionalGroupVerdict}
 use Rattle.x12_judge.specs.Verdict.{judged, group_is_acknowledgment, judgement_of}
 use Rattle.x12_acks.specs.declared.answer.AnswerCode.{AnswerCode}
-use Rattle.x12_acks.specs.declared.answer.AnswerCode.TheVariants.{Accepted, ErrorsNoted, PartiallyAccepted}
+use Rattle.x12_acks.specs.declared.answer.AnswerCode.TheVariants.{PartiallyAccepted}
+use Rattle.x12_acks.specs.Evidence.{result_of_code}
 use Rattle.x12_acks.specs.Reply.{reply_of, MayAnswer}
 use Rattle.x12_acks.specs.Answer.{Acknowledgment, of_group, FunctionalGroupAnswer, answers_of}
-use Rattle.x12_acks.specs.Accepted.{AcceptedSet, accepted_by_verdict}
+use Rattle.x12_acks.specs.Accepted.{AcceptedSet, sets_by_verdict}
+use Rattle.x12_acks.specs.Accepted.{accepted_by_verdict}
 use Rattle.x12_acks.specs.Laws.{written_answers}
 
 -- What a reply accepts.
-
--- AK501: A and E accept
-abbrev pub code_accepts : AnswerCode → Bool
-code_accepts Accepted = true
-code_accepts ErrorsNoted = true
-code_accepts code = false
 
 -- AK901: R, M, W and X refuse all transaction sets, whatever is listed; A, E and P leave each to
 -- its AK501
 abbrev pub refuses_all : AnswerCode → Bool
 refuses_all PartiallyAccepted = false
-refuses_all code = not (code_accepts code)
+refuses_all code = not (takes (result_of_code code))
 
 -- the functional groups that are answered: all but those of acknowledgments (FA), each by its
 -- place among all groups, from 1
@@ -54,24 +53,35 @@ placed_set h g s = record {
 abbrev pub placed_sets : Header → ℕ × FunctionalGroup → List AcceptedSet
 placed_sets h g = map (placed_set h g) (enumerate_from 1 (its_item g).sets)
 
--- the transaction sets of a group that its 997 accepts: the set that it lists in a place answers
--- the one that has this place in the group
-unfoldable pub accepted_by_answer :
-    Header → (ℕ × FunctionalGroup) × FunctionalGroupAnswer → List AcceptedSet
-accepted_by_answer h p =
+-- the transaction sets of a group whose result by its 997 passes a test: the set that it lists in a
+-- place answers the one that has this place in the group
+unfoldable pub sets_by_answer :
+    (SetResult → Bool) → Header → (ℕ × FunctionalGroup) × FunctionalGroupAnswer → List AcceptedSet
+sets_by_answer test h p =
     if refuses_all p.1.code then []
-    else map (λ s. s.0) (filter (λ s. code_accepts s.1.code) (zip (placed_sets h p.0) p.1.sets))
+    else map (λ s. s.0)
+    (filter (λ s. test (result_of_code s.1.code)) (zip (placed_sets h p.0) p.1.sets))
 
 -- an answer, if it is a 997
 abbrev pub functional_answer : Acknowledgment → List FunctionalGroupAnswer
 functional_answer (of_group a) = a ∷ []
 functional_answer other = []
 
--- the transaction sets of an interchange that its reply accepts: the 997 in a place answers the
--- group that has this place among the answered groups
-unfoldable pub accepted_by_reply : Header → Interchange → List Acknowledgment → List AcceptedSet
-accepted_by_reply h x answers =
-    flat_map (accepted_by_answer h) (zip (answered_groups x) (flat_map functional_answer answers))
+-- the transaction sets of an interchange whose result by its reply passes a test: the 997 in a place
+-- answers the group that has this place among the answered groups
+unfoldable pub sets_by_reply :
+    (SetResult → Bool) → Header → Interchange → List Acknowledgment → List AcceptedSet
+sets_by_reply test h x answers =
+    flat_map (sets_by_answer test h)
+    (zip (answered_groups x) (flat_map functional_answer answers))
+
+-- those that its reply accepts, with or without errors noted
+abbrev pub accepted_by_reply : Header → Interchange → List Acknowledgment → List AcceptedSet
+accepted_by_reply h x answers = sets_by_reply takes h x answers
+
+-- of these, those with errors noted
+abbrev pub noted_by_reply : Header → Interchange → List Acknowledgment → List AcceptedSet
+noted_by_reply h x answers = sets_by_reply is_noted h x answers
 
 -- The law.
 
@@ -93,18 +103,19 @@ pub record AcceptsSets (h : Header) (x : Interchange) (reply : List ℕ)
   pub is_outline : outline_of header.delims reply ≡ Ok outline
   pub accepted : accepted_by_reply h x (answers_of header.delims outline) ≡ sets
 
--- The transaction sets that the reply to an interchange accepts, by its segments and by its bytes,
--- are those that the verdict accepts: for each interchange that can be read, also where numbers
+-- The transaction sets that the reply to an interchange accepts, with or without errors noted, by its
+-- segments and by its bytes, are those that the verdict accepts so: for each interchange that can be read, also where numbers
 -- repeat and where groups of acknowledgments stand between others. Where the interchange isn't
 -- refused, there is a 997 for each answered group, in their order, and it names this group.
 pub record ReplyAcceptsByPlace : Type 0 where
   pub segments :
+      (test : SetResult → Bool) → test Rejected ≡ false →
       (me : Party) (agreements : List TradingAgreement) (h : Header) (bytes : List ℕ)
       (x : Interchange) (at : Moment) (icn gcn : ℕ) →
       outline_of h.delims bytes ≡ Ok x →
-      accepted_by_reply h x
+      sets_by_reply test h x
       (written_answers (reply_of h (judgement_of me agreements h bytes) me at icn gcn))
-      ≡ accepted_by_verdict h.sender h.icn (judgement_of me agreements h bytes).verdict
+      ≡ sets_by_verdict test h.sender h.icn (judgement_of me agreements h bytes).verdict
   pub named :
       (me : Party) (agreements : List TradingAgreement) (h : Header) (bytes : List ℕ)
       (x : Interchange) (at : Moment) (icn gcn : ℕ) (groups : List FunctionalGroupVerdict) →

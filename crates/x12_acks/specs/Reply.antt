@@ -3,7 +3,7 @@
 use Rattle.std.specs.Prelude.{ℕ, Bool, ◌&&◌, ◌||◌, not, List, [], ◌∷◌, ◌++◌, map, length}
 use Rattle.std.specs.Prelude.{if◌then◌else◌, ◌==◌, codes, decimal, flat_map, option_to_list}
 use Rattle.std.specs.Prelude.{◌≡◌, true, ◌⊎◌, Option, Some, None, option_map, unwrap_or, is_some}
-use Rattle.std.specs.List.{enumerate_from}
+use Rattle.std.specs.List.{enumerate_from, list_any}
 use Rattle.x12_envelopes.specs.Place.{its_place, its_item}
 use Rattle.x12_envelopes.specs.declared.party.Party.{Party}
 use Rattle.x12_envelopes.specs.declared.header.Header.{Header}
@@ -15,6 +15,8 @@ use Rattle.x12_envelopes.specs.Party.{is_plain_party}
 use Rattle.x12_envelopes.specs.Segment.{Segment}
 use Rattle.x12_envelopes.specs.Envelope.{WrittenInterchange, WrittenGroup, WrittenSet, written}
 use Rattle.x12_judge.specs.declared.verdict.SetCode.{SetCode}
+use Rattle.x12_judge.specs.declared.verdict.SetResult.{SetResult}
+use Rattle.x12_judge.specs.declared.verdict.SetResult.TheVariants.{Accepted, Noted, Rejected}
 use Rattle.x12_judge.specs.declared.verdict.GroupRefusal.{GroupRefusal}
 use Rattle.x12_judge.specs.declared.verdict.SegmentCode.{SegmentCode}
 use Rattle.x12_judge.specs.declared.verdict.ElementCode.{ElementCode}
@@ -22,12 +24,18 @@ use Rattle.x12_acks.specs.declared.reply_header.ReplyHeader.{ReplyHeader}
 use Rattle.x12_judge.specs.Code.{set_code_number, group_refusal_number, segment_code_number}
 use Rattle.x12_judge.specs.Code.{element_code_number}
 use Rattle.x12_judge.specs.Segment.{ElementNote}
-use Rattle.x12_judge.specs.Set.{TransactionSetVerdict, set_is_accepted, ReportedNote, segment}
+use Rattle.x12_judge.specs.Set.{TransactionSetVerdict, is_noted, ReportedNote, segment}
 use Rattle.x12_judge.specs.Set.{element}
 use Rattle.x12_judge.specs.Group.{FunctionalGroupVerdict}
 use Rattle.x12_judge.specs.Verdict.{InterchangeVerdict, refused, judged, InterchangeJudgement}
 
--- AK502: why a transaction set is rejected
+-- AK501: how a transaction set fares
+abbrev pub code_of_result : SetResult → List ℕ
+code_of_result Accepted = codes "A"
+code_of_result Noted = codes "E"
+code_of_result Rejected = codes "R"
+
+-- AK502: what is wrong with a transaction set
 abbrev pub code_of_set : SetCode → List ℕ
 code_of_set code = decimal (set_code_number code)
 
@@ -63,21 +71,25 @@ abbrev pub note_segment : ReportedNote → Segment
 note_segment (segment name position code) = ak3_segment name position code
 note_segment (element n) = ak4_segment n
 
--- AK5: accepted, or rejected with its codes
+-- AK5: how the set fares, and its codes
 abbrev pub ak5_segment : TransactionSetVerdict → Segment
-ak5_segment v =
-    codes "AK5"
-    ∷ (if set_is_accepted v then codes "A" ∷ [] else codes "R" ∷ map code_of_set v.codes)
+ak5_segment v = codes "AK5" ∷ code_of_result v.result ∷ map code_of_set v.codes
 
 -- a transaction set's part of the 997: AK2, its notes, AK5
 unfoldable pub set_answer : TransactionSetVerdict → List Segment
 set_answer v =
     (codes "AK2" ∷ v.set ∷ v.number ∷ []) ∷ map note_segment v.notes ++ ak5_segment v ∷ []
 
--- AK901: R where the group is refused; A where each set is accepted; R where none is; else P
+-- some set is accepted with errors noted
+abbrev pub some_are_noted : List TransactionSetVerdict → Bool
+some_are_noted sets = list_any (λ v. is_noted v.result) sets
+
+-- AK901: R where the group is refused; E where each set is accepted, and errors were noted in one; A where
+-- each is accepted; R where none is; else P
 unfoldable pub code_of_group : FunctionalGroupVerdict → List ℕ
 code_of_group v = unwrap_or (first_of_rows (
     (is_some v.refused, codes "R")
+    ∷ (v.accepted == length v.sets && some_are_noted v.sets, codes "E")
     ∷ (v.accepted == length v.sets, codes "A")
     ∷ (v.accepted == 0, codes "R")
     ∷ [])) (codes "P")

@@ -9,36 +9,52 @@ use Rattle.x12_envelopes.specs.declared.header.Header.{Header}
 use Rattle.x12_envelopes.specs.Outline.{outline_of}
 use Rattle.x12_envelopes.specs.Shape.{Interchange}
 use Rattle.x12_judge.specs.Agreement.{TradingAgreement}
-use Rattle.x12_judge.specs.Set.{TransactionSetVerdict, set_is_accepted}
+use Rattle.x12_judge.specs.declared.verdict.SetResult.{SetResult}
+use Rattle.x12_judge.specs.declared.verdict.SetResult.TheVariants.{Accepted, Noted, Rejected}
+use Rattle.x12_judge.specs.Set.{TransactionSetVerdict}
 use Rattle.x12_judge.specs.Group.{FunctionalGroupVerdict}
 use Rattle.x12_judge.specs.Verdict.{InterchangeVerdict, refused, judged, group_is_acknowledgment}
 use Rattle.x12_judge.specs.Verdict.{judgement_of}
 use Rattle.x12_acks.specs.Submission.{Submission, KeyedSet, KeyedGroup, keyed_groups, keyed_sets}
 use Rattle.x12_acks.specs.Submission.{submission_of}
-use Rattle.x12_acks.specs.Evidence.{FinalFate, accepted, rejected, Evidence, tells, tells_each}
-use Rattle.x12_acks.specs.Accepted.{AcceptedSet, accepted_by_verdict}
+use Rattle.x12_acks.specs.Evidence.{rejected, Evidence, tells, tells_each, fate_of_result}
+use Rattle.x12_acks.specs.Accepted.{AcceptedSet, accepted_by_verdict, noted_by_verdict}
 
--- By place: accepted, of each set that the verdict accepts; rejected, of each other.
+-- By place: of each set that the verdict accepts, that it is, or that errors were noted; rejected, of each
+-- other.
 
 -- one of these stands at the place of a group and of a set
 abbrev pub is_among : List AcceptedSet → ℕ → ℕ → Bool
 is_among sets group set = list_any (λ s. (s.key.group == group) && (s.key.set == set)) sets
 
--- what is told of a set, by which places are accepted
-abbrev pub told_at : (ℕ → ℕ → Bool) → KeyedSet → Evidence
-told_at accepts s = tells s.key (if accepts s.key.group s.key.set then accepted else rejected)
+-- the result of a set that is among those with errors noted or not, and among the accepted ones or not
+abbrev pub result_if : Bool → Bool → SetResult
+result_if noted accepted =
+    if accepted then (if noted then Noted else Accepted)
+    else Rejected
+
+-- the result of the set at a place, by which sets are accepted, and which of these with errors noted
+abbrev pub result_among : List AcceptedSet → List AcceptedSet → ℕ → ℕ → SetResult
+result_among noted accepted group set =
+    result_if (is_among noted group set) (is_among accepted group set)
+
+-- the result of the set at a place by a verdict
+abbrev pub result_by_verdict : Party → ℕ → InterchangeVerdict → ℕ → ℕ → SetResult
+result_by_verdict sender icn v =
+    result_among (noted_by_verdict sender icn v) (accepted_by_verdict sender icn v)
+
+-- what is told of a set, by the results at places
+abbrev pub told_at : (ℕ → ℕ → SetResult) → KeyedSet → Evidence
+told_at results s = tells s.key (fate_of_result (results s.key.group s.key.set))
 
 -- what a verdict tells of a submitted interchange
 unfoldable pub told_by_place : Submission → InterchangeVerdict → List Evidence
-told_by_place e v = map (told_at (is_among (accepted_by_verdict e.sender e.icn v))) (keyed_sets e)
+told_by_place e v = map (told_at (result_by_verdict e.sender e.icn v)) (keyed_sets e)
 
 -- In the verdict's own words: group by group, and set by set.
 
-abbrev pub verdict_fate : TransactionSetVerdict → FinalFate
-verdict_fate v = if set_is_accepted v then accepted else rejected
-
 abbrev pub set_told : KeyedSet → TransactionSetVerdict → Evidence
-set_told s v = tells s.key (verdict_fate v)
+set_told s v = tells s.key (fate_of_result v.result)
 
 -- a refused group rejects each of its sets
 abbrev pub group_told : KeyedGroup → FunctionalGroupVerdict → List Evidence

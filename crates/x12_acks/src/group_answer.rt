@@ -2,13 +2,15 @@
 #![tactic(auto)]
 
 ghost use Rattle.std.specs.Prelude.{◌≡◌, ◌++◌, ◌∷◌, ◌≤◌, ◌+◌, [], codes, decimal, length, flat_map};
-ghost use Rattle.std.specs.Prelude.{map, OnOk, IfOk, option_to_list, option_map};
+ghost use Rattle.std.specs.Prelude.{map, OnOk, IfOk, option_to_list, option_map, if◌then◌else◌};
 ghost use Rattle.x12_envelopes.specs.Byte.{zero_padded_number};
 ghost use Rattle.x12_envelopes.specs.Segment.{segment_text, text_of};
 ghost use Rattle.x12_envelopes.specs.Envelope.{set_segments};
+ghost use Rattle.std.specs.List.{list_any};
+ghost use Rattle.x12_judge.specs.Set.{is_noted};
 ghost use Rattle.x12_judge.specs.Verdict.{set_verdict_view, group_verdict_view};
 ghost use Rattle.x12_acks.specs.Reply.{refusal_code, set_answer, code_of_group, ak9_segment};
-ghost use Rattle.x12_acks.specs.Reply.{group_answer};
+ghost use Rattle.x12_acks.specs.Reply.{group_answer, some_are_noted};
 
 use crate::set_answer::push_set_answer;
 use std::alloc::AllocError;
@@ -82,6 +84,21 @@ fn push_set_answers(
     Ok(segments)
 }
 
+/// Whether some transaction set is accepted with errors noted.
+fn has_noted(sets: &[SetVerdict]) -> bool
+    ensures { result ≡ list_any (λ v. is_noted v.result) sets.now }
+{
+    sets.iter().any(|set| set.result.is_noted())
+}
+
+/// AK901: how a functional group fares, all of whose transaction sets are accepted.
+fn accepting_letter(sets: &[SetVerdict]) -> u8
+    ensures { let noted = some_are_noted (map set_verdict_view sets.now) in
+        result ∷ [] ≡ (if noted then codes "E" else codes "A") }
+{
+    if has_noted(sets) { b'E' } else { b'A' }
+}
+
 /// AK901: how a functional group fares.
 #[tactic(auto, unfolding(crate::specs::Reply::code_of_group))]
 fn group_code_letter(verdict: &GroupVerdict) -> u8
@@ -91,7 +108,7 @@ fn group_code_letter(verdict: &GroupVerdict) -> u8
         return b'R';
     }
     if u64::from(verdict.accepted) == verdict.sets.len() as u64 {
-        return b'A';
+        return accepting_letter(&verdict.sets);
     }
     if verdict.accepted == 0 {
         return b'R';

@@ -7,11 +7,12 @@ ghost use Rattle.x12_envelopes.specs.Segment.{segment_text, text_of};
 ghost use Rattle.x12_envelopes.specs.Shape.{bytes_of_set_no};
 ghost use Rattle.x12_judge.specs.Verdict.{set_verdict_view, note_view};
 ghost use Rattle.x12_acks.specs.Reply.{code_of_set, note_segment, ak5_segment, set_answer};
+ghost use Rattle.x12_acks.specs.Reply.{code_of_result};
 
 use crate::note::push_note;
 use std::alloc::AllocError;
 use x12_envelopes::{Delims, SetNo, push_element, push_identifier, push_number, push_terminator};
-use x12_judge::{SetCode, SetNote, SetVerdict};
+use x12_judge::{SetCode, SetNote, SetResult, SetVerdict};
 
 /// Appends the notes of a transaction set.
 fn push_notes(out: &mut Vec<u8>, delims: &Delims, notes: &[SetNote]) -> Result<(), AllocError>
@@ -35,17 +36,29 @@ fn push_codes(out: &mut Vec<u8>, delims: &Delims, codes: &[SetCode]) -> Result<(
     Ok(())
 }
 
-/// Appends AK5: accepted where there is no code, and else rejected.
+/// AK501: how a transaction set fares.
+fn result_letter(fares: SetResult) -> u8
+    ensures { result ∷ [] ≡ code_of_result fares }
+{
+    match fares {
+        SetResult::Accepted => b'A',
+        SetResult::Noted => b'E',
+        SetResult::Rejected => b'R',
+    }
+}
+
+/// Appends AK5: how the set fares, and its codes.
 #[tactic(auto, unfolding(x12_envelopes::specs::Segment::segment_text))]
 fn push_ak5(out: &mut Vec<u8>, delims: &Delims, verdict: &SetVerdict) -> Result<(), AllocError>
     ensures written { OnOk result (out.new.items ≡
         out.old.items ++ segment_text delims.now (ak5_segment (set_verdict_view verdict.now))) }
 {
     let (element, end) = (delims.element, delims.terminator);
+    let letter = result_letter(verdict.result);
     if verdict.codes.is_empty() {
-        return out.extend_from_slice(&[b'A', b'K', b'5', element, b'A', end]);
+        return out.extend_from_slice(&[b'A', b'K', b'5', element, letter, end]);
     }
-    out.extend_from_slice(&[b'A', b'K', b'5', element, b'R'])?;
+    out.extend_from_slice(&[b'A', b'K', b'5', element, letter])?;
     push_codes(out, delims, &verdict.codes)?;
     push_terminator(out, delims)
 }

@@ -67,6 +67,7 @@ fn copied(alloc: Global, agreement: &Agreement) -> Result<Agreement, AllocError>
 {
     Ok(Agreement {
         partner: agreement.partner,
+        lenient: agreement.lenient,
         pairs: Vec::from_slice(alloc, &agreement.pairs)?,
     })
 }

@@ -26,6 +26,9 @@ pub(crate) struct HubNumbers {
     pub(crate) item: u32,
 }
 
+/// The version of a hub's tables.
+const VERSION: u32 = 1;
+
 /// All columns of the row.
 pub(crate) const HUB_NUMBERS: &str = "SELECT one, version, party, icn, item FROM hubnumber";
 
@@ -34,7 +37,7 @@ pub(crate) fn hub_numbers_in_rows(rows: &[Row]) -> Result<HubNumbers, TableFault
     ensures are { IfOk result (λ n. AreNumbers n rows.now) }
     ensures taken { TakesRows ((n : HubNumbers) × AreNumbers n rows.now) Memory result }
 {
-    let row = one_row(rows)?;
+    let row = one_row(rows, VERSION)?;
     Ok(HubNumbers {
         party: party_in_row(row, 2)?,
         icn: number_in(row, 3)?,

@@ -15,7 +15,7 @@ use Rattle.x12_judge.specs.Interchange.{Reading, note_of_interchange, reading_is
 use Rattle.x12_judge.specs.Group.{FunctionalGroupVerdict}
 use Rattle.x12_judge.specs.Verdict.{InterchangeVerdict, InterchangeJudgement, refused, judged, verdicts_of_groups, verdict_by, judgement_by, judgement_of}
 use Rattle.x12_acks.specs.Reply.{MayAnswer, due_reply, reply_of, reply_tas, judged_groups, is_reply_due}
-use Rattle.x12_acks.specs.Accepted.{accepted_in_group, accepted_by_verdict}
+use Rattle.x12_acks.specs.Accepted.{accepted_in_group, accepted_by_verdict, sets_by_verdict}
 use Rattle.x12_acks.specs.Place.{AcceptsSets, ReplyAcceptsByPlace}
 use Rattle.x12_inbound.specs.Arrival.{Arrival}
 use Rattle.x12_numbers.proofs.Shelf.{and_second}
@@ -53,7 +53,7 @@ reply_accepts law a j reply x me agreements h at icn gcn is_header partner numbe
 
 -- without groups nothing is posted
 nothing_posted : (p : Party) (icn : ℕ) (v : InterchangeVerdict) → judged_groups v ≡ [] → accepted_by_verdict p icn v ≡ []
-unfolding accepted_by_verdict
+unfolding sets_by_verdict
 nothing_posted p icn (refused note) none = refl
 nothing_posted p icn (judged groups) none = ap (λ gs. flat_map (accepted_in_group p icn) gs) none
 

@@ -25,7 +25,7 @@ use Rattle.x12_judge.specs.Laws.{IsSmallVerdict}
 use Rattle.x12_inbound.specs.Order.{interchange, interchange_holding, interchange_order, set_order}
 use Rattle.x12_inbound.specs.Filing.{FiledInterchange}
 use Rattle.x12_inbound.specs.Posting.{HasFewSets}
-use Rattle.x12_acks.specs.Accepted.{AcceptedSet, judged_set, accepted_in_group, accepted_by_verdict}
+use Rattle.x12_acks.specs.Accepted.{AcceptedSet, judged_set, accepted_in_group, accepted_by_verdict, sets_by_verdict}
 use Rattle.x12_inbound.specs.Arrival.{RiseByKey, ArePostingsOf}
 use Rattle.x12_inbound.proofs.OrderLemmas.{interchange_total}
 use Rattle.x12_inbound.proofs.PutLemmas.{all_pairs_append}
@@ -122,7 +122,7 @@ judged_places agreements h (Ok x) =
 verdict_postings : (filed : FiledInterchange) (note : Option ℕ) (gs : List FunctionalGroupVerdict)
     → AllPairs (λ (g o : FunctionalGroupVerdict). g.place < o.place) gs
     → ArePostingsOf filed (accepted_by_verdict filed.partner filed.icn (verdict_by note gs))
-unfolding accepted_by_verdict
+unfolding sets_by_verdict
 verdict_postings filed (Some note) gs rise = record { rise = λ i j d before within. absurd (omega arith); theirs = λ k d within. absurd (omega arith) }
 verdict_postings filed None gs rise = record {
   rise = groups_rise filed.partner filed.icn gs rise;

@@ -95,7 +95,7 @@ fn push_groups(
 
 /// The postings of an interchange from this partner under this number: the accepted sets of its
 /// judgement, and none of one that is refused.
-#[tactic(auto, unfolding(x12_acks::specs::Accepted::accepted_by_verdict))]
+#[tactic(auto, unfolding(x12_acks::specs::Accepted::sets_by_verdict))]
 pub(crate) fn make_postings(
     alloc: Global,
     partner: &Party,

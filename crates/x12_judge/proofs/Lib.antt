@@ -1,5 +1,6 @@
 pub mod Shelf
 pub mod ListLemmas
+pub mod KeptNoteLemmas
 pub mod ElementErrorLemmas
 pub mod TakenElementLemmas
 pub mod SegmentNoteLemmas

@@ -6,6 +6,7 @@ use Rattle.std.proofs.lemmas.Slice.Eq.{bytes_eq-Decides}
 use Rattle.x12_envelopes.specs.Row.{held_of_rows}
 use Rattle.x12_judge.specs.declared.verdict.SegmentCode.{SegmentCode}
 use Rattle.x12_judge.specs.Note.{with_errors}
+use Rattle.x12_judge.specs.Keeping.{KeptNotes, keeping}
 use Rattle.std.proofs.Common.{◌-◌, ◌||◌, ◌<◌, nat_lt, bytes_eq, codes, slice_index}
 use Rattle.std.proofs.lemmas.Bool.{false≢true}
 use Rattle.x12_envelopes.specs.declared.delimiters.Delims.{Delims}
@@ -13,7 +14,7 @@ use Rattle.std.specs.Char.{is_ascii_uppercase, is_ascii_digit}
 use Rattle.x12_envelopes.specs.Byte.{byte_is_capital_or_digit}
 use Rattle.x12_judge.specs.Segment.{SegmentNote, ElementNote, note_on_segment, identifier_of, name_is_identifier, notes_at}
 use Rattle.x12_judge.specs.Set.{ReportedNote, reported, segment}
-use Rattle.x12_judge.proofs.ListLemmas.{keeps_both}
+use Rattle.x12_judge.proofs.KeptNoteLemmas.{keeps_more}
 
 -- one row, and those behind it
 pub one_row :
@@ -46,23 +47,18 @@ errors_row true name position code (e ∷ es) =
     sym (ap (λ b. flat_map reported (held_of_rows ((b, n) ∷ []))) (not_empty (length es)) ∙ append-nil (reported n))
 errors_row false name position code es = refl
 
--- nothing more is kept
-pub nothing_more : {X : Type 0} (xs : List X) → length xs ≤ 8 → xs ≡ take 8 (xs ++ [])
-nothing_more xs few = sym (ap (take 8) (append-nil xs) ∙ take_all 8 xs few)
-
--- four steps that each keep the first eight are one
+-- four steps are one
 pub keeps_four :
-    (old one two three four a b c d all : List ReportedNote)
-    → one ≡ take 8 (old ++ a)
-    → two ≡ take 8 (one ++ b)
-    → three ≡ take 8 (two ++ c)
-    → four ≡ take 8 (three ++ d)
+    (old one two three four : KeptNotes) (a b c d all : List ReportedNote)
+    → one ≡ keeping old a
+    → two ≡ keeping one b
+    → three ≡ keeping two c
+    → four ≡ keeping three d
     → a ++ (b ++ (c ++ d)) ≡ all
-    → four ≡ take 8 (old ++ all)
+    → four ≡ keeping old all
 keeps_four old one two three four a b c d all e f g h whole =
-    keeps_both 8 old a _ one four e
-    (keeps_both 8 one b _ two four f (keeps_both 8 two c d three four g h))
-    ∙ ap (λ xs. take 8 (old ++ xs)) whole
+    keeps_more old one four a _ e (keeps_more one two four b _ f (keeps_more two three four c d g h))
+    ∙ ap (keeping old) whole
 
 -- two rows
 pub two_rows :

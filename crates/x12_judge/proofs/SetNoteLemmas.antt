@@ -6,22 +6,23 @@ use Rattle.x12_envelopes.specs.Row.{held_of_rows}
 use Rattle.x12_judge.specs.declared.verdict.SegmentCode.{SegmentCode}
 use Rattle.x12_judge.specs.Segment.{SegmentNote, note_on_segment}
 use Rattle.x12_judge.specs.Set.{ReportedNote, reported, segment}
-use Rattle.x12_judge.proofs.ListLemmas.{take_of_taken}
+use Rattle.x12_judge.specs.Keeping.{KeptNotes, keeping}
+use Rattle.x12_judge.proofs.KeptNoteLemmas.{keeping_twice}
 
 none_of : (n : ℕ) → (suc n == 0) ≡ false
 none_of n = grind (arith, nat_tests)
 
 -- the notes of one segment more
 pub one_segment :
-    (kept more all : List ReportedNote) (first rest : List SegmentNote)
-    → more ≡ take 8 (kept ++ flat_map reported first)
-    → take 8 (kept ++ flat_map reported (first ++ rest)) ≡ all
-    → take 8 (more ++ flat_map reported rest) ≡ all
+    (kept more all : KeptNotes) (first rest : List SegmentNote)
+    → more ≡ keeping kept (flat_map reported first)
+    → keeping kept (flat_map reported (first ++ rest)) ≡ all
+    → keeping more (flat_map reported rest) ≡ all
 one_segment kept more all first rest step so_far =
     let front = flat_map reported first in
     let back = flat_map reported rest in
-    ap (λ ks. take 8 (ks ++ back)) step ∙ take_of_taken 8 (kept ++ front) back
-    ∙ ap (take 8) (append_assoc kept front back ∙ ap (λ xs. kept ++ xs) (sym (flat_map-append reported first rest)))
+    ap (λ ks. keeping ks back) step ∙ keeping_twice kept front back
+    ∙ ap (keeping kept) (sym (flat_map-append reported first rest))
     ∙ so_far
 
 -- a test that held before, or holds of one more

@@ -54,13 +54,14 @@ one_verdict view f g olds news v xs i x all within is pushed same so_far =
     ∙ sym (ap (λ ys. map view olds ++ map f (enumerate_from i (map g ys))) (one_left xs i x within is))
     ∙ so_far
 
--- the verdicts of sets, by a test of which identifiers are agreed
-abbrev pub verdicts_by : Delims → (List ℕ → Bool) → List TransactionSet → List TransactionSetVerdict
-verdicts_by d agrees received =
-    map (λ place. verdict_of_set d (agrees place.1.set) (take place.0 received) place.1) (enumerate_from 0 received)
+-- the verdicts of sets, by a test of which identifiers are agreed, of a partner who is lenient or not
+abbrev pub verdicts_by : Delims → (List ℕ → Bool) → Bool → List TransactionSet → List TransactionSetVerdict
+verdicts_by d agrees lenient received =
+    map (λ place. verdict_of_set d (agrees place.1.set) lenient (take place.0 received) place.1) (enumerate_from 0 received)
 
 -- they are the same by the same test
 pub by_same_test :
-    (d : Delims) (one other : List ℕ → Bool) (received : List TransactionSet)
-    → ((set : List ℕ) → one set ≡ other set) → verdicts_by d one received ≡ verdicts_by d other received
-by_same_test d one other received same = λ i. verdicts_by d (λ set. same set i) received
+    (d : Delims) (one other : List ℕ → Bool) (lenient same_lenient : Bool) (received : List TransactionSet)
+    → ((set : List ℕ) → one set ≡ other set) → lenient ≡ same_lenient
+    → verdicts_by d one lenient received ≡ verdicts_by d other same_lenient received
+by_same_test d one other lenient same_lenient received same leniently = λ i. verdicts_by d (λ set. same set i) (leniently i) received

@@ -28,9 +28,9 @@ held_few (row ∷ rows) = one row.0 (held_few rows)
     one true few = omega (arith, few)
     one false few = omega (arith, few)
 
-set_is_short : (d : Delims) (agreed : Bool) (earlier : List TransactionSet) (s : TransactionSet) → IsShortVerdict (verdict_of_set d agreed earlier s)
+set_is_short : (d : Delims) (agreed lenient : Bool) (earlier : List TransactionSet) (s : TransactionSet) → IsShortVerdict (verdict_of_set d agreed lenient earlier s)
 unfolding verdict_of_set codes_of_set codes_by
-set_is_short d agreed earlier s = record {
+set_is_short d agreed lenient earlier s = record {
   codes = held_few (code_rows agreed (not (length (notes_of_set d agreed s) == 0)) (is_repeated earlier s) s);
   notes = omega (arith, length-take 8 (flat_map reported (notes_of_set d agreed s)));
 }
@@ -48,7 +48,7 @@ module _ (agreements : List TradingAgreement) (partner : Party) (d : Delims) whe
   unfolding verdict_of_group verdicts_of_sets
   group_is_short place g =
       unless_all IsShortVerdict (is_some (refusal_of_group agreements partner g)) (verdicts_of_sets agreements partner d g)
-      (All-map IsShortVerdict _ (enumerate_from 0 g.sets) (λ k p within. set_is_short d _ _ _))
+      (All-map IsShortVerdict _ (enumerate_from 0 g.sets) (λ k p within. set_is_short d _ _ _ _))
 
   pub few_in_group : (place : ℕ) (g : FunctionalGroup) → length (verdict_of_group agreements partner d place g).sets ≤ length g.sets
   unfolding verdict_of_group verdicts_of_sets

@@ -17,20 +17,27 @@ pair_functional pair = pair.0
 abbrev pub pair_set : List ℕ × List ℕ → List ℕ
 pair_set pair = pair.1
 
--- an agreement: the partner, and the pairs of GS01 and ST01 that are taken from it
+-- an agreement: the partner; whether sets are accepted whose only errors are in elements, with these noted; and
+-- the pairs of GS01 and ST01 that are taken
 pub record TradingAgreement : Type 0 where
   pub partner : Party
+  pub lenient : Bool
   pub pairs : List (List ℕ × List ℕ)
 
 -- what the code's agreement stands for
 abbrev pub agreement_view : Agreement → TradingAgreement
-agreement_view a = record { partner = a.partner; pairs = a.pairs.items }
+agreement_view a = record { partner = a.partner; lenient = a.lenient; pairs = a.pairs.items }
 
 -- transaction sets of this identifier are taken from the partner in functional groups of this code
 unfoldable pub set_is_agreed : List TradingAgreement → Party → List ℕ → List ℕ → Bool
 set_is_agreed agreements partner functional set =
     list_any (λ a. is_same_party a.partner partner
     && list_any (λ pair. bytes_eq (pair_functional pair) functional && bytes_eq (pair_set pair) set) a.pairs) agreements
+
+-- sets of the partner are accepted whose only errors are in elements, with these noted
+unfoldable pub partner_is_lenient : List TradingAgreement → Party → Bool
+partner_is_lenient agreements partner =
+    list_any (λ a. is_same_party a.partner partner && a.lenient) agreements
 
 -- some transaction set is taken from the partner in functional groups of this code
 unfoldable pub group_is_agreed : List TradingAgreement → Party → List ℕ → Bool

@@ -14,6 +14,7 @@ use Rattle.x12_judge.specs.declared.verdict.GroupRefusal.TheVariants.{VersionNot
 use Rattle.x12_judge.specs.declared.verdict.GroupRefusal.TheVariants.{TrailerMissing, NumbersDiffer}
 use Rattle.x12_judge.specs.declared.verdict.GroupRefusal.TheVariants.{CountWrong}
 use Rattle.x12_judge.specs.Agreement.{TradingAgreement, set_is_agreed, group_is_agreed}
+use Rattle.x12_judge.specs.Agreement.{partner_is_lenient}
 use Rattle.x12_judge.specs.Interchange.{value_is_number}
 use Rattle.x12_judge.specs.Set.{TransactionSetVerdict, verdict_of_set, set_is_accepted}
 
@@ -33,8 +34,9 @@ unfoldable pub verdicts_of_sets :
     List TradingAgreement → Party → Delims → FunctionalGroup → List TransactionSetVerdict
 verdicts_of_sets agreements partner d g =
     let is_agreed = set_is_agreed agreements partner g.functional in
+    let lenient = partner_is_lenient agreements partner in
     map (λ (p : ℕ × TransactionSet).
-    verdict_of_set d (is_agreed (its_item p).set) (take (its_place p) g.sets) (its_item p))
+    verdict_of_set d (is_agreed (its_item p).set) lenient (take (its_place p) g.sets) (its_item p))
     (enumerate_from 0 g.sets)
 
 -- GE01 as a number of one to six digits, if it is one

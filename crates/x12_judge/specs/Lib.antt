@@ -7,6 +7,7 @@ pub mod Set
 pub mod Group
 pub mod Verdict
 pub mod Code
+pub mod Keeping
 pub mod Note
 pub mod Body
 pub mod Number

@@ -1,19 +1,19 @@
--- The notes of a transaction set that are kept: the first eight.
-use Rattle.std.specs.Prelude.{◌≡◌, ℕ, Bool, true, false, List, [], ◌∷◌, ◌++◌, map, take}
+-- The notes of a transaction set that are kept: the first eight, and what is to be known of the others.
+use Rattle.std.specs.Prelude.{◌≡◌, ℕ, Bool, true, false, List, [], ◌∷◌, map, take}
 use Rattle.x12_judge.specs.declared.note.Notes.{Notes}
 use Rattle.x12_envelopes.specs.Cutting.{DelimitedSegment}
 use Rattle.x12_judge.specs.declared.verdict.SegmentCode.TheVariants.{ElementErrors}
 use Rattle.x12_judge.specs.Segment.{ElementNote, identifier_of, element_notes}
 use Rattle.x12_judge.specs.Set.{ReportedNote, segment, element}
-use Rattle.x12_judge.specs.Verdict.{note_view}
+use Rattle.x12_judge.specs.Keeping.{KeptNotes, keeping, kept_as}
 
--- the notes that were kept so far
-abbrev pub kept_notes : Notes → List ReportedNote
-kept_notes notes = map note_view notes.kept.items
+-- what was kept so far
+abbrev pub kept_notes : Notes → KeptNotes
+kept_notes notes = kept_as notes.kept.items notes.has_other
 
--- the notes that were kept, and more: the first eight of them
+-- more was noted
 abbrev pub KeepsNotes : Notes → Notes → List ReportedNote → Type 0
-KeepsNotes old new more = kept_notes new ≡ take 8 (kept_notes old ++ more)
+KeepsNotes old new more = kept_notes new ≡ keeping (kept_notes old) more
 
 -- the notes of a segment's elements behind that of the segment, where there are any
 abbrev pub with_errors : ReportedNote → List ElementNote → List ReportedNote

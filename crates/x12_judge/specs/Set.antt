@@ -1,16 +1,19 @@
 -- The codes and notes of a transaction set (997, AK5).
 use Rattle.std.specs.Prelude.{ℕ, ◌-◌, Bool, true, false, ◌&&◌, not, List, [], ◌∷◌, map}
 use Rattle.std.specs.Prelude.{length, take, drop, Option, Some, None, if◌then◌else◌, ◌==◌, is_some}
-use Rattle.std.specs.Prelude.{is_none, codes, bytes_eq, flat_map}
+use Rattle.std.specs.Prelude.{is_none, codes, bytes_eq, flat_map, unwrap_or}
 use Rattle.std.specs.List.{list_any}
 use Rattle.x12_envelopes.specs.declared.delimiters.Delims.{Delims}
-use Rattle.x12_envelopes.specs.Row.{held_of_rows}
+use Rattle.x12_envelopes.specs.Row.{held_of_rows, first_of_rows}
 use Rattle.x12_envelopes.specs.Shape.{TransactionSet, TransactionSetTrailer}
 use Rattle.x12_judge.specs.declared.verdict.SetCode.{SetCode}
 use Rattle.x12_judge.specs.declared.verdict.SetCode.TheVariants.{NotSupported, TrailerMissing}
 use Rattle.x12_judge.specs.declared.verdict.SetCode.TheVariants.{NumbersDiffer, CountWrong}
 use Rattle.x12_judge.specs.declared.verdict.SetCode.TheVariants.{SegmentsInError, NumberNotUnique}
 use Rattle.x12_judge.specs.declared.verdict.SegmentCode.{SegmentCode}
+use Rattle.x12_judge.specs.declared.verdict.SegmentCode.TheVariants.{ElementErrors}
+use Rattle.x12_judge.specs.declared.verdict.SetResult.{SetResult}
+use Rattle.x12_judge.specs.declared.verdict.SetResult.TheVariants.{Accepted, Noted, Rejected}
 use Rattle.x12_judge.specs.Interchange.{value_is_number}
 use Rattle.x12_judge.specs.Segment.{SegmentNote, ElementNote, segment_notes}
 
@@ -67,25 +70,62 @@ pub data ReportedNote : Type 0 where
 abbrev pub reported : SegmentNote → List ReportedNote
 reported n = segment n.identifier n.position n.code ∷ map element n.elements
 
--- what a set deserves; it is accepted where no code holds
+-- segments in error are all that is wrong
+abbrev pub only_segments_are_in_error : List SetCode → Bool
+only_segments_are_in_error (SegmentsInError ∷ []) = true
+only_segments_are_in_error codes = false
+
+-- what is wrong with a segment isn't errors in its elements
+abbrev pub is_other_code : SegmentCode → Bool
+is_other_code ElementErrors = false
+is_other_code code = true
+
+-- a note on a segment for another reason than errors in its elements
+abbrev pub is_of_no_element : SegmentNote → Bool
+is_of_no_element n = is_other_code n.code
+
+-- AK501: accepted where no code holds; noted, where the partner is lenient and errors in elements are all
+-- that is wrong; and else rejected
+unfoldable pub result_by : Bool → Bool → List SetCode → SetResult
+result_by lenient other codes = unwrap_or (first_of_rows (
+    (length codes == 0, Accepted)
+    ∷ (lenient && not other && only_segments_are_in_error codes, Noted)
+    ∷ [])) Rejected
+
+-- whether the set is accepted, with or without errors noted: its receiver takes it over
+abbrev pub takes : SetResult → Bool
+takes Accepted = true
+takes Noted = true
+takes Rejected = false
+
+-- accepted with errors noted
+abbrev pub is_noted : SetResult → Bool
+is_noted Noted = true
+is_noted result = false
+
+-- what a set deserves
 pub record TransactionSetVerdict : Type 0 where
   pub set : List ℕ
   pub number : List ℕ
   pub bytes : List ℕ
+  pub result : SetResult
   pub codes : List SetCode
   pub notes : List ReportedNote
 
--- no code holds
+-- accepted, with or without errors noted (AK501 is A or E)
 abbrev pub set_is_accepted : TransactionSetVerdict → Bool
-set_is_accepted v = length v.codes == 0
+set_is_accepted v = takes v.result
 
--- the verdict of a set: all its codes, and the first eight of its notes
+-- the verdict of a set, of a partner who is lenient or not: all its codes, and the first eight of its
+-- notes
 unfoldable pub verdict_of_set :
-    Delims → Bool → List TransactionSet → TransactionSet → TransactionSetVerdict
-verdict_of_set d agreed earlier s = record {
+    Delims → Bool → Bool → List TransactionSet → TransactionSet → TransactionSetVerdict
+verdict_of_set d agreed lenient earlier s = record {
   set = s.set;
   number = s.number;
   bytes = s.bytes;
+  result = result_by lenient (list_any is_of_no_element (notes_of_set d agreed s))
+      (codes_of_set d agreed earlier s);
   codes = codes_of_set d agreed earlier s;
   notes = take 8 (flat_map reported (notes_of_set d agreed s));
 }

@@ -73,6 +73,7 @@ set_verdict_view v = record {
   set = v.set;
   number = bytes_of_set_no v.number;
   bytes = v.bytes.now;
+  result = v.result;
   codes = v.codes.items;
   notes = map note_view v.notes.items;
 }

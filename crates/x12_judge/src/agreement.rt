@@ -5,18 +5,20 @@ ghost use Rattle.std.specs.Prelude.{◌≡◌, ℕ, List, [], ◌∷◌, ◌++�
 ghost use Rattle.std.specs.Prelude.{IfOk, OnOk, if◌then◌else◌};
 ghost use Rattle.std.specs.List.{list_any};
 ghost use Rattle.x12_judge.specs.Agreement.{agreement_view, is_same_party, group_is_agreed};
-ghost use Rattle.x12_judge.specs.Agreement.{set_is_agreed, sets_taken};
+ghost use Rattle.x12_judge.specs.Agreement.{set_is_agreed, sets_taken, partner_is_lenient};
 
 use smallvec::SmallVec;
 use std::alloc::{AllocError, Global};
 use x12_envelopes::Party;
 
 /// A trading partner agreement: the pairs of functional identifier code (GS01) and transaction set
-/// identifier (ST01) that are taken from a partner.
+/// identifier (ST01) that are taken from a partner, and whether leniently.
 #[derive(Debug, Drop)]
 pub struct Agreement {
     /// The partner, as ISA05 and ISA06 name it.
     pub partner: Party,
+    /// Whether sets are accepted whose only errors are in elements, with these noted.
+    pub lenient: bool,
     /// GS01 and ST01 of what is taken, as `PO` and `850`.
     pub pairs: Vec<([u8; 2], [u8; 3])>,
 }
@@ -75,6 +77,23 @@ impl Agreement {
         }
         Ok(())
     }
+}
+
+/// Whether an agreement with the partner is lenient.
+fn some_is_lenient(agreements: &[Agreement], partner: &Party) -> bool
+    ensures { result
+        ≡ list_any (λ a. is_same_party a.partner partner.now && a.lenient) agreements.now }
+{
+    agreements
+        .iter()
+        .any(|a| a.partner == *partner && a.lenient)
+}
+
+/// Whether sets of the partner are accepted whose only errors are in elements, with these noted.
+pub(crate) fn is_lenient(agreements: &[Agreement], partner: &Party) -> bool
+    ensures { result ≡ partner_is_lenient (map agreement_view agreements.now) partner.now }
+{
+    some_is_lenient(agreements, partner)
 }
 
 /// Whether an agreement takes some transaction set from the partner in functional groups of this

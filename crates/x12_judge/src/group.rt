@@ -12,7 +12,7 @@ ghost use Rattle.x12_judge.specs.Interchange.{value_is_number};
 ghost use Rattle.x12_judge.specs.Set.{set_is_accepted, verdict_of_set};
 ghost use Rattle.x12_judge.specs.Verdict.{group_verdict_view, set_verdict_view};
 
-use crate::agreement::{Agreement, agreed_sets, is_group_agreed};
+use crate::agreement::{Agreement, agreed_sets, is_group_agreed, is_lenient};
 use crate::number::Numbers;
 use crate::set::set_verdict;
 use crate::verdict::{GroupRefusal, GroupVerdict, SetVerdict};
@@ -104,10 +104,12 @@ fn accepted_of(sets: &[SetVerdict<'_>]) -> usize
     sets.iter().filter(|set| set.is_accepted()).count()
 }
 
-/// The verdict of each set of a group in which these identifiers are agreed.
+/// The verdict of each set of a group in which these identifiers are agreed, with a partner who is
+/// lenient or not.
 fn set_verdicts<'a>(
     alloc: Global,
     agreed: &[[u8; 3]],
+    lenient: bool,
     delims: &Delims,
     sets: &[SetView<'a>],
 ) -> Result<Vec<SetVerdict<'a>>, AllocError>
@@ -117,7 +119,7 @@ fn set_verdicts<'a>(
         IfOk result
         (λ vs. map set_verdict_view vs.items
         ≡ map (λ place.
-        verdict_of_set d (list_any (λ i. bytes_eq i place.1.set) agreed.now)
+        verdict_of_set d (list_any (λ i. bytes_eq i place.1.set) agreed.now) lenient
         (take place.0 received) place.1)
         (enumerate_from 0 received)) }
     ensures count { IfOk result (λ vs. vec_len vs ≡ length sets.now) }
@@ -127,7 +129,7 @@ fn set_verdicts<'a>(
     for set in sets {
         let repeated = numbers.see(&set.number)?;
         let is_agreed = is_one_of(agreed, set.set);
-        let verdict = set_verdict(alloc, delims, is_agreed, repeated, set)?;
+        let verdict = set_verdict(alloc, delims, is_agreed, lenient, repeated, set)?;
         verdicts.push(verdict)?;
     }
     Ok(verdicts)
@@ -154,7 +156,8 @@ fn verdicts_unless<'a>(
         return Ok(Vec::new(alloc));
     }
     let agreed = agreed_sets(alloc, agreements, partner, group.functional)?;
-    set_verdicts(alloc, &agreed, delims, &group.sets)
+    let lenient = is_lenient(agreements, partner);
+    set_verdicts(alloc, &agreed, lenient, delims, &group.sets)
 }
 
 /// The verdict of the group at this place; a refused group rejects all its sets.

@@ -23,5 +23,5 @@ pub use judging::{judge, judge_reading, read_interchange};
 pub use laws::{judged_is_read, judgements_are_small, notes_rise};
 pub use verdict::{
     ElementCode, GroupRefusal, GroupVerdict, Judgement, Note, SegmentCode, SetCode, SetCodes,
-    SetNote, SetVerdict, Verdict,
+    SetNote, SetResult, SetVerdict, Verdict,
 };

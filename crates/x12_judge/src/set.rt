@@ -1,20 +1,22 @@
 //! The codes and notes of a transaction set (997, AK5).
 
-ghost use Rattle.std.specs.Prelude.{◌≡◌, ◌+◌, ◌<◌, ◌^◌, ◌||◌, not, List, length, take};
+ghost use Rattle.std.specs.Prelude.{◌≡◌, ◌+◌, ◌<◌, ◌^◌, ◌||◌, not, List, length};
 ghost use Rattle.std.specs.Prelude.{codes, bytes_eq, flat_map, OnOk, IfOk};
 ghost use Rattle.x12_envelopes.specs.Row.{held_of_rows};
 ghost use Rattle.x12_envelopes.specs.Shape.{TransactionSet, set_view};
 ghost use Rattle.x12_judge.specs.Interchange.{value_is_number};
 ghost use Rattle.x12_judge.specs.Note.{KeepsNotes, kept_notes};
+ghost use Rattle.x12_judge.specs.Keeping.{keeping, no_notes};
 ghost use Rattle.x12_judge.specs.Segment.{has_po1, notes_from, segment_notes};
 ghost use Rattle.x12_judge.specs.Set.{body_of, is_repeated, notes_of_set, reported};
-ghost use Rattle.x12_judge.specs.Set.{codes_by, verdict_of_set, trailer_says};
+ghost use Rattle.x12_judge.specs.Set.{codes_by, verdict_of_set, trailer_says, result_by};
+ghost use Rattle.x12_judge.specs.Set.{only_segments_are_in_error};
 ghost use Rattle.x12_judge.specs.Verdict.{set_verdict_view};
 
 use crate::body::Body;
 use crate::note::Notes;
 use crate::segment::{keep_notes_at, keep_notes_at_end};
-use crate::verdict::{SetCode, SetCodes, SetVerdict};
+use crate::verdict::{SetCode, SetCodes, SetResult, SetVerdict};
 use std::alloc::{AllocError, Global};
 use x12_envelopes::{Delims, Segment, SetView};
 
@@ -68,7 +70,7 @@ fn purchase_order_notes<'a>(
 ) -> Result<Notes<'a>, AllocError>
     requires { length set.now.bytes.now < 2 ^ 31 }
     ensures { let noted = segment_notes delims.now (body_of (set_view delims.now set.now)) in
-        IfOk result (λ notes. kept_notes notes ≡ take 8 (flat_map reported noted)) }
+        IfOk result (λ notes. kept_notes notes ≡ keeping no_notes (flat_map reported noted)) }
 {
     let mut notes = Notes::new(alloc);
     let end = keep_body_notes(&mut notes, delims, set)?;
@@ -77,7 +79,7 @@ fn purchase_order_notes<'a>(
 }
 
 /// The notes of a set: of a purchase order (850) that is agreed, and of no other.
-#[tactic(auto, unfolding(crate::specs::Set::notes_of_set))]
+#[tactic(auto, unfolding(crate::specs::Set::notes_of_set, crate::specs::Keeping::keeping))]
 fn notes_of<'a>(
     alloc: Global,
     delims: &Delims,
@@ -86,7 +88,7 @@ fn notes_of<'a>(
 ) -> Result<Notes<'a>, AllocError>
     requires { length set.now.bytes.now < 2 ^ 31 }
     ensures { let noted = notes_of_set delims.now agreed (set_view delims.now set.now) in
-        IfOk result (λ notes. kept_notes notes ≡ take 8 (flat_map reported noted)) }
+        IfOk result (λ notes. kept_notes notes ≡ keeping no_notes (flat_map reported noted)) }
 {
     if agreed && set.set == *b"850" {
         return purchase_order_notes(alloc, delims, set);
@@ -151,11 +153,38 @@ fn set_codes(
     ])
 }
 
-/// The verdict of a set whose pair is agreed or not, and whose control number stood before or not.
+/// Whether segments in error are all that is wrong.
+fn is_in_error_alone(codes: &[SetCode]) -> bool
+    ensures { result ≡ only_segments_are_in_error codes.now }
+{
+    match codes {
+        [SetCode::SegmentsInError] => true,
+        _ => false,
+    }
+}
+
+/// How a set with these codes fares, and with notes of which some are for another reason than errors
+/// in elements, or none.
+#[tactic(auto, unfolding(crate::specs::Set::result_by))]
+fn set_result(lenient: bool, other: bool, codes: &[SetCode]) -> SetResult
+    ensures { result ≡ result_by lenient other codes.now }
+{
+    if codes.is_empty() {
+        return SetResult::Accepted;
+    }
+    if lenient && !other && is_in_error_alone(codes) {
+        return SetResult::Noted;
+    }
+    SetResult::Rejected
+}
+
+/// The verdict of a set whose pair is agreed or not, with a partner who is lenient or not, and whose
+/// control number stood before or not.
 pub(crate) fn set_verdict<'a>(
     alloc: Global,
     delims: &Delims,
     agreed: bool,
+    lenient: bool,
     repeated: bool,
     set: &SetView<'a>,
 ) -> Result<SetVerdict<'a>, AllocError>
@@ -163,10 +192,11 @@ pub(crate) fn set_verdict<'a>(
     ensures { let s = set_view delims.now set.now in
         IfOk result
         (λ v. (earlier : List TransactionSet) → repeated ≡ is_repeated earlier s
-        → set_verdict_view v ≡ verdict_of_set delims.now agreed earlier s) }
+        → set_verdict_view v ≡ verdict_of_set delims.now agreed lenient earlier s) }
 {
     let notes = notes_of(alloc, delims, agreed, set)?;
     let codes = set_codes(delims, agreed, !notes.is_empty(), repeated, set);
+    let result = set_result(lenient, notes.has_other(), &codes);
     let SetView {
         set: identifier,
         number,
@@ -177,6 +207,7 @@ pub(crate) fn set_verdict<'a>(
         set: identifier,
         number,
         bytes,
+        result,
         codes,
         notes: notes.into_vec(),
     })

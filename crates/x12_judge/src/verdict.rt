@@ -2,7 +2,7 @@
 //! transaction sets (AK5), segments (AK3) and elements (AK4).
 
 ghost use Rattle.std.specs.Prelude.{◌≡◌};
-ghost use Rattle.x12_judge.specs.Set.{set_is_accepted};
+ghost use Rattle.x12_judge.specs.Set.{set_is_accepted, takes, is_noted};
 ghost use Rattle.x12_judge.specs.Verdict.{set_verdict_view};
 
 use arrayvec::ArrayVec;
@@ -44,6 +44,40 @@ pub enum SetCode {
     SegmentsInError,
     /// 23: the control number isn't unique within the functional group.
     NumberNotUnique,
+}
+
+/// How a transaction set fares (AK501).
+#[derive(Clone, Copy, PartialEq, Eq)]
+pub enum SetResult {
+    /// `A`: accepted, no code holds.
+    Accepted,
+    /// `E`: accepted, but errors were noted. They are all in elements, and the partner is lenient.
+    Noted,
+    /// `R`: rejected, with its codes.
+    Rejected,
+}
+
+impl SetResult {
+    /// Whether the set is accepted, with or without errors noted: its receiver takes it over.
+    pub fn is_accepted(self) -> bool
+        ensures { result ≡ takes self }
+    {
+        match self {
+            SetResult::Accepted => true,
+            SetResult::Noted => true,
+            SetResult::Rejected => false,
+        }
+    }
+
+    /// Whether the set is accepted with errors noted.
+    pub fn is_noted(self) -> bool
+        ensures { result ≡ is_noted self }
+    {
+        match self {
+            SetResult::Noted => true,
+            _ => false,
+        }
+    }
 }
 
 /// What is wrong with a segment (AK304).
@@ -103,7 +137,7 @@ pub enum SetNote<'a> {
 /// The codes of a transaction set: at most one of each.
 pub type SetCodes = ArrayVec<SetCode, 6>;
 
-/// What a transaction set deserves: it is accepted where no code holds.
+/// What a transaction set deserves.
 #[derive(Drop)]
 pub struct SetVerdict<'a> {
     /// ST01.
@@ -112,6 +146,8 @@ pub struct SetVerdict<'a> {
     pub number: SetNo,
     /// The bytes from ST through the terminator of the set's last segment.
     pub bytes: &'a [u8],
+    /// AK501.
+    pub result: SetResult,
     /// AK502 to AK506, in rising order.
     pub codes: SetCodes,
     /// The first eight of its notes, in the order in which they are written.
@@ -119,11 +155,11 @@ pub struct SetVerdict<'a> {
 }
 
 impl<'a> SetVerdict<'a> {
-    /// Whether the set is accepted: no code holds (AK501 is `A`).
+    /// Whether the set is accepted, with or without errors noted (AK501 is `A` or `E`).
     pub fn is_accepted(&self) -> bool
         ensures { result ≡ set_is_accepted (set_verdict_view self.now) }
     {
-        self.codes.is_empty()
+        self.result.is_accepted()
     }
 }
 
@@ -144,7 +180,7 @@ pub struct GroupVerdict<'a> {
     pub included: u32,
     /// AK903: how many sets were received.
     pub received: u32,
-    /// AK904: how many sets are accepted.
+    /// AK904: how many sets are accepted, with or without errors noted.
     pub accepted: u32,
     /// AK905, where the whole group is refused.
     pub refused: Option<GroupRefusal>,

@@ -56,6 +56,8 @@ mod world_memory;
 #[cfg(test)]
 mod world_nodes;
 #[cfg(test)]
+mod world_noted;
+#[cfg(test)]
 mod world_outsiders;
 #[cfg(test)]
 mod world_refusals;

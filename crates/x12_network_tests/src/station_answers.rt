@@ -60,6 +60,10 @@ const ACCEPTS: &[u8] =
 const REJECTS: &[u8] =
     b"GS*FA*BETA*ALPHA*20250102*1000*5*X*004010~ST*997*0001~AK1*PO*1~AK9*R*1*1*0~SE*4*0001~GE*1*5~IEA*1*";
 
+/// A 997 that accepts its set with errors noted.
+const NOTES: &[u8] =
+    b"GS*FA*BETA*ALPHA*20250102*1000*5*X*004010~ST*997*0001~AK1*PO*1~AK2*850*0001~AK5*E*5~AK9*E*1*1*1~SE*6*0001~GE*1*5~IEA*1*";
+
 /// A 997 without AK9.
 const CANNOT_BE_READ: &[u8] =
     b"GS*FA*BETA*ALPHA*20250102*1000*5*X*004010~ST*997*0001~AK1*PO*1~SE*3*0001~GE*1*5~IEA*1*";
@@ -125,6 +129,41 @@ pub(crate) fn keeps_the_first_fate<R: Records>(
     check(rt, alloc, alpha, &REJECTED_BEHIND)?;
     assert!(rt; alpha.counts() == CONFLICTING);
     Ok(())
+}
+
+/// BETA notes errors, then accepts without, and then rejects.
+const NOTED_FIRST: [Step; 4] = [
+    (BETA, 77, NOTES, SETTLED, Fate::Noted),
+    (BETA, 78, NOTES, REPEATED, Fate::Noted),
+    (BETA, 79, ACCEPTS, REPEATED, Fate::Noted),
+    (BETA, 80, REJECTS, CONFLICTING, Fate::Noted),
+];
+
+/// A noted set stays noted where its receiver accepts it without errors; that counts as repeated.
+pub(crate) fn stays_noted<R: Records>(
+    rt: &impl Abort,
+    alloc: Global,
+    alpha: &mut Station<R>,
+) -> Result<(), StationFault> {
+    submit_first(alloc, alpha)?;
+    check(rt, alloc, alpha, &NOTED_FIRST)?;
+    restart(alpha)?;
+    assert!(rt; fate(alpha, &FIRST)? == Some(Fate::Noted) && alpha.tick(100)?.is_empty());
+    Ok(())
+}
+
+/// An accepted set stays accepted where its receiver notes errors then; that counts as repeated.
+pub(crate) fn is_noted_too_late<R: Records>(
+    rt: &impl Abort,
+    alloc: Global,
+    alpha: &mut Station<R>,
+) -> Result<(), StationFault> {
+    submit_first(alloc, alpha)?;
+    let steps: [Step; 2] = [
+        (BETA, 77, ACCEPTS, SETTLED, Fate::Accepted),
+        (BETA, 78, NOTES, REPEATED, Fate::Accepted),
+    ];
+    check(rt, alloc, alpha, &steps)
 }
 
 /// A TA1 of another than the receiver and the hub settles nothing, nor does a 997 of another, nor
@@ -218,6 +257,16 @@ pub(crate) fn keeps_what_was_settled<R: Records>(
 #[test]
 fn conflicting_evidence_is_counted_and_changes_nothing(rt: HostRuntime) {
     tell_alpha(&rt, rt.alloc(), Sender::Hearing(Hearing::KeepsTheFirstFate));
+}
+
+#[test]
+fn a_noted_set_stays_noted(rt: HostRuntime) {
+    tell_alpha(&rt, rt.alloc(), Sender::Hearing(Hearing::StaysNoted));
+}
+
+#[test]
+fn an_accepted_set_stays_accepted(rt: HostRuntime) {
+    tell_alpha(&rt, rt.alloc(), Sender::Hearing(Hearing::IsNotedTooLate));
 }
 
 #[test]

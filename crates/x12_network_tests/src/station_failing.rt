@@ -6,7 +6,7 @@ use crate::station_stories::{Hearing, Ordering, Receiver, Sender, Sending, Submi
 use std::alloc::Global;
 use std::process::Abort;
 
-const SENDERS: [Sender; 15] = [
+const SENDERS: [Sender; 17] = [
     Sender::Submitting(Submitting::Refuses),
     Sender::Submitting(Submitting::SubmitsOnce),
     Sender::Submitting(Submitting::Rises),
@@ -22,6 +22,8 @@ const SENDERS: [Sender; 15] = [
     Sender::Hearing(Hearing::BelievesNoOutsider),
     Sender::Hearing(Hearing::BelievesItsHub),
     Sender::Hearing(Hearing::KeepsWhatWasSettled),
+    Sender::Hearing(Hearing::StaysNoted),
+    Sender::Hearing(Hearing::IsNotedTooLate),
 ];
 
 const RECEIVERS: [Receiver; 7] = [

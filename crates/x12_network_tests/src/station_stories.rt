@@ -2,7 +2,8 @@
 
 use crate::station::{refuses, rises, submits_once};
 use crate::station_answers::{
-    believes_its_hub, believes_no_outsider, keeps_the_first_fate, keeps_what_was_settled,
+    believes_its_hub, believes_no_outsider, is_noted_too_late, keeps_the_first_fate,
+    keeps_what_was_settled, stays_noted,
 };
 use crate::station_arrivals::{
     answers_again, judges_once, posts_what_it_accepts, refuses_others, runs_out_of_groups,
@@ -61,6 +62,8 @@ pub(crate) enum Hearing {
     BelievesNoOutsider,
     BelievesItsHub,
     KeepsWhatWasSettled,
+    StaysNoted,
+    IsNotedTooLate,
 }
 
 /// What is done at a station of BETA, at which orders arrive.
@@ -155,6 +158,8 @@ impl Hearing {
             Hearing::BelievesNoOutsider => believes_no_outsider(rt, alloc, alpha),
             Hearing::BelievesItsHub => believes_its_hub(rt, alloc, alpha),
             Hearing::KeepsWhatWasSettled => keeps_what_was_settled(rt, alloc, alpha),
+            Hearing::StaysNoted => stays_noted(rt, alloc, alpha),
+            Hearing::IsNotedTooLate => is_noted_too_late(rt, alloc, alpha),
         }
     }
 }

@@ -22,6 +22,7 @@ pub(crate) enum Line {
     EnrolAt(u16, Party, u16),
     Dismiss(u16, Party),
     Agree(u16, Party),
+    AgreeLeniently(u16, Party),
     Withdraw(u16, Party),
     Orders(u16, Party),
     Prepared(u16, &'static [u8]),
@@ -69,10 +70,21 @@ fn agree(alloc: Global, node: u16, partner: Party) -> Result<Event, AllocError> 
     Ok(act(node, Action::Agree { agreement }))
 }
 
+/// A node agrees to take a partner's orders leniently.
+fn agree_leniently(alloc: Global, node: u16, partner: Party) -> Result<Event, AllocError> {
+    let mut agreement = orders_from(alloc, partner)?;
+    agreement.lenient = true;
+    Ok(act(node, Action::Agree { agreement }))
+}
+
 /// A node takes nothing of a partner any more.
 fn withdraw(alloc: Global, node: u16, partner: Party) -> Event {
     let pairs = Vec::new(alloc);
-    let agreement = Agreement { partner, pairs };
+    let agreement = Agreement {
+        partner,
+        lenient: false,
+        pairs,
+    };
     act(node, Action::Agree { agreement })
 }
 
@@ -107,6 +119,7 @@ pub(crate) fn event(alloc: Global, line: Line, at: Moment) -> Result<Event, Allo
         Line::EnrolAt(hub, party, node) => Ok(enrol(hub, party, node)),
         Line::Dismiss(hub, party) => Ok(act(hub, Action::Dismiss { party })),
         Line::Agree(node, partner) => agree(alloc, node, partner),
+        Line::AgreeLeniently(node, partner) => agree_leniently(alloc, node, partner),
         Line::Withdraw(node, partner) => Ok(withdraw(alloc, node, partner)),
         Line::Orders(node, to) => submit(alloc, node, to, at),
         Line::Prepared(node, text) => prepared(alloc, node, text),

@@ -1,11 +1,12 @@
 //! What partners outside the network move: those who are no nodes.
 
-use crate::fixture::GAMMA;
+use crate::fixture::{ALPHA, GAMMA};
 use crate::world_fixture::{Line, Told, carries, fares, half_past_nine, plays, posted_at};
 use crate::world_tales::{Tale, tell_network};
 use std::alloc::Global;
 use std::process::Abort;
 use std::test::Fail;
+use x12_acks::SetKey;
 use x12_hub::HubRecords;
 use x12_outbound::{Counts, Fate};
 use x12_samples::moment;
@@ -66,6 +67,44 @@ pub(crate) fn is_settled_once<R: Records, H: HubRecords>(
 #[test]
 fn the_first_answer_of_a_partner_outside_settles(rt: HostRuntime) -> Result<(), Fail> {
     tell_network(&rt, rt.alloc(), Tale::IsSettledOnce)
+}
+
+/// ALPHA's two orders to GAMMA in one group.
+const TWO_SETS: &[u8] =
+    b"ISA*00*          *00*          *ZZ*ALPHA          *ZZ*GAMMA          *250102*0930*U*00401*000000001*0*P*:~GS*PO*ALPHA*GAMMA*20250102*0930*1*X*004010~ST*850*0001~BEG*00*SA*PO-1**20250102~PO1*1*10*EA*5~SE*4*0001~ST*850*0002~BEG*00*SA*PO-2**20250102~PO1*1*10*EA*5~SE*4*0002~GE*2*1~IEA*1*000000001~";
+
+/// GAMMA accepts the first with errors noted, and rejects the second.
+const NOTES_ONE: &[u8] =
+    b"ISA*00*          *00*          *ZZ*GAMMA          *ZZ*ALPHA          *250102*1000*U*00401*000000077*0*P*:~GS*FA*GAMMA*ALPHA*20250102*1000*5*X*004010~ST*997*0001~AK1*PO*1~AK2*850*0001~AK5*E*5~AK2*850*0002~AK5*R*5~AK9*P*2*2*1~SE*8*0001~GE*1*5~IEA*1*000000077~";
+
+/// The key of the second.
+const SECOND: SetKey = SetKey {
+    sender: ALPHA,
+    icn: 1,
+    group: 1,
+    set: 2,
+};
+
+const ONE_IS_NOTED: [Told; 2] = [
+    (Line::Prepared(1, TWO_SETS), DEPOSIT),
+    (Line::Outside(1, NOTES_ONE), NOTHING),
+];
+
+pub(crate) fn is_noted_in_part<R: Records, H: HubRecords>(
+    rt: &impl Abort,
+    alloc: Global,
+    world: &mut World<R, H>,
+) -> Result<(), Fail> {
+    let at = half_past_nine()?;
+    plays(rt, alloc, world, at, 1, &ONE_IS_NOTED)?;
+    assert!(rt; fares(world, Fate::Noted)?);
+    assert!(rt; world.fate(&SECOND)? == Some(Fate::Rejected));
+    Ok(())
+}
+
+#[test]
+fn a_partner_outside_notes_one_set_of_a_group(rt: HostRuntime) -> Result<(), Fail> {
+    tell_network(&rt, rt.alloc(), Tale::IsNotedInPart)
 }
 
 /// Two orders of GAMMA come to BETA under one number.

@@ -5,7 +5,8 @@ use crate::two_hubs::{is_refused_across, stays_pending};
 use crate::two_hubs_refusals::{knows_no_second, serves_no_hub_itself};
 use crate::world_audit::is_audited;
 use crate::world_nodes::{end, network, network_of_two_hubs};
-use crate::world_outsiders::{is_settled_once, posts_one_of_two};
+use crate::world_noted::{is_noted_across, is_noted_and_then_rejected};
+use crate::world_outsiders::{is_noted_in_part, is_settled_once, posts_one_of_two};
 use crate::world_refusals::{stops_at_a_refusal, takes_no_number};
 use crate::world_story::{is_answered_as_before, is_refused_twice};
 use std::alloc::Global;
@@ -26,6 +27,8 @@ pub(crate) enum Tale {
     StopsAtARefusal,
     IsAnsweredAsBefore,
     IsRefusedTwice,
+    IsNotedAndThenRejected,
+    IsNotedInPart,
 }
 
 /// What is told of a network of two hubs.
@@ -36,6 +39,7 @@ pub(crate) enum TaleOfTwo {
     IsRefusedAcross,
     StaysPending,
     ServesNoHubItself,
+    IsNotedAcross,
 }
 
 /// What is told to a network.
@@ -78,6 +82,8 @@ impl Told for Tale {
             Tale::StopsAtARefusal => stops_at_a_refusal(rt, alloc, world),
             Tale::IsAnsweredAsBefore => is_answered_as_before(rt, alloc, world),
             Tale::IsRefusedTwice => is_refused_twice(rt, alloc, world),
+            Tale::IsNotedAndThenRejected => is_noted_and_then_rejected(rt, alloc, world),
+            Tale::IsNotedInPart => is_noted_in_part(rt, alloc, world),
         }
     }
 }
@@ -100,6 +106,7 @@ impl Told for TaleOfTwo {
             TaleOfTwo::IsRefusedAcross => is_refused_across(rt, alloc, world),
             TaleOfTwo::StaysPending => stays_pending(rt, alloc, world),
             TaleOfTwo::ServesNoHubItself => serves_no_hub_itself(rt, alloc, world),
+            TaleOfTwo::IsNotedAcross => is_noted_across(rt, alloc, world),
         }
     }
 }

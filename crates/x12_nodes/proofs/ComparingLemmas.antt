@@ -3,7 +3,8 @@ use Rattle.std.proofs.Common.{◌≡◌, ℕ, List, [], ◌∷◌, Bool, true, �
 use Rattle.std.proofs.lemmas.Bool.{and_parts}
 use Rattle.std.proofs.lemmas.Bool.Decides.{Decides-and, Decides-eqb, Decides-like}
 use Rattle.std.proofs.lemmas.Slice.Eq.{bytes_eq-Decides}
-use Rattle.std.specs.Bool.{Decides}
+use Rattle.std.specs.Bool.{Decides, beq}
+use Rattle.std.specs.Cmp.{booleans_Decides}
 use Rattle.std.specs.Cmp.Lexicographic.{pointwise, pointwise_decides}
 use Rattle.std.specs.Coded.{Coded-set, coded_ℕ, coded_bool}
 use Rattle.std.specs.Option.{option_eq}
@@ -63,8 +64,10 @@ pair_decides p q = Decides-like (bytes_eq p.0 q.0 && bytes_eq p.1 q.1) (λ h. ap
 
 agreement_known : (a b : TradingAgreement) → agreement_is a b ≡ true → a ≡ b
 agreement_known a b e =
-    let parts = and_parts (is_same_party a.partner b.partner) (pointwise (λ p q. bytes_eq p.0 q.0 && bytes_eq p.1 q.1) a.pairs b.pairs) e in
-    ap₂ (λ p l. record { partner = p; pairs = l }) (same_party a.partner b.partner parts.0) ((pointwise_decides pair_decides a.pairs b.pairs).0 parts.1)
+    let parts = and_parts (is_same_party a.partner b.partner && beq a.lenient b.lenient) (pointwise (λ p q. bytes_eq p.0 q.0 && bytes_eq p.1 q.1) a.pairs b.pairs) e in
+    let terms = and_parts (is_same_party a.partner b.partner) (beq a.lenient b.lenient) parts.0 in
+    ap₂ (λ p l. record { partner = p; lenient = a.lenient; pairs = l }) (same_party a.partner b.partner terms.0) ((pointwise_decides pair_decides a.pairs b.pairs).0 parts.1)
+    ∙ ap (λ lenient. record { partner = b.partner; lenient = lenient; pairs = b.pairs }) ((booleans_Decides a.lenient b.lenient).0 terms.1)
 
 name_known : (m n : PacketName) → name_is m n ≡ true → m ≡ n
 name_known m n e =
@@ -197,13 +200,20 @@ option_known E known (Some x) None e = absurd cc
 fate_known : (f g : SetFate) → fate_is f g ≡ true → f ≡ g
 fate_known fate.Pending fate.Pending e = refl
 fate_known fate.Accepted fate.Accepted e = refl
+fate_known fate.Noted fate.Noted e = refl
 fate_known fate.Rejected fate.Rejected e = refl
 fate_known fate.Pending fate.Accepted e = absurd cc
+fate_known fate.Pending fate.Noted e = absurd cc
 fate_known fate.Pending fate.Rejected e = absurd cc
 fate_known fate.Accepted fate.Pending e = absurd cc
+fate_known fate.Accepted fate.Noted e = absurd cc
 fate_known fate.Accepted fate.Rejected e = absurd cc
+fate_known fate.Noted fate.Pending e = absurd cc
+fate_known fate.Noted fate.Accepted e = absurd cc
+fate_known fate.Noted fate.Rejected e = absurd cc
 fate_known fate.Rejected fate.Pending e = absurd cc
 fate_known fate.Rejected fate.Accepted e = absurd cc
+fate_known fate.Rejected fate.Noted e = absurd cc
 
 answer_known : (a b : NodeAnswer) → answer_is a b ≡ true → a ≡ b
 answer_known (Sent number told) (Sent other its) e =

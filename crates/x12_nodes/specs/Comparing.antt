@@ -1,5 +1,6 @@
 -- Whether what was asked and answered is the same.
 use Rattle.std.specs.Prelude.{◌&&◌, ◌==◌, ℕ, Bool, true, false, bytes_eq}
+use Rattle.std.specs.Bool.{beq}
 use Rattle.std.specs.Cmp.Lexicographic.{pointwise}
 use Rattle.std.specs.Option.{option_eq}
 use Rattle.x12_acks.specs.Key.{is_same_key}
@@ -23,9 +24,9 @@ moment_is m n = bytes_eq m.date n.date && bytes_eq m.time n.time
 abbrev pub order_is : Order → Order → Bool
 order_is x y = pointwise (pointwise bytes_eq) x y
 
--- the same partner and pairs
+-- the same partner and pairs, both lenient or neither
 abbrev pub agreement_is : TradingAgreement → TradingAgreement → Bool
-agreement_is a b = is_same_party a.partner b.partner
+agreement_is a b = is_same_party a.partner b.partner && beq a.lenient b.lenient
     && pointwise (λ p q. bytes_eq p.0 q.0 && bytes_eq p.1 q.1) a.pairs b.pairs
 
 abbrev pub name_is : PacketName → PacketName → Bool
@@ -67,6 +68,7 @@ told_is t u = t.0 == u.0 && kind_is t.1 u.1
 abbrev pub fate_is : SetFate → SetFate → Bool
 fate_is fate.Pending fate.Pending = true
 fate_is fate.Accepted fate.Accepted = true
+fate_is fate.Noted fate.Noted = true
 fate_is fate.Rejected fate.Rejected = true
 fate_is f g = false
 

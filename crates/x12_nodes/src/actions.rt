@@ -64,8 +64,11 @@ fn copied_agreement(alloc: Global, agreement: &Agreement) -> Result<Agreement, A
     ensures { IfOk result (λ a. agreement_view a ≡ agreement_view agreement.now) }
 {
     let pairs = Vec::from_slice(alloc, &agreement.pairs)?;
-    let partner = agreement.partner;
-    Ok(Agreement { partner, pairs })
+    Ok(Agreement {
+        partner: agreement.partner,
+        lenient: agreement.lenient,
+        pairs,
+    })
 }
 
 /// A copy of an action.
@@ -131,7 +134,7 @@ fn are_orders(orders: &[Body], others: &[Body]) -> bool
 fn is_agreement(one: &Agreement, other: &Agreement) -> bool
     ensures { result ≡ agreement_is (agreement_view one.now) (agreement_view other.now) }
 {
-    one.partner == other.partner && one.pairs == other.pairs
+    one.partner == other.partner && one.lenient == other.lenient && one.pairs == other.pairs
 }
 
 /// Whether these orders are submitted.

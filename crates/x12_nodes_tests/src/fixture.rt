@@ -51,7 +51,9 @@ pub(crate) type TestCell = NodeCell<RecordsOfStation, RecordsOfHub>;
 pub(crate) enum Line {
     Enrol(Party, u16),
     Agree(Party),
+    AgreeLeniently(Party),
     Submit,
+    Prepared(&'static [u8]),
     Deliver(u16, u64, u32),
     Tick(u64),
     Collect(u16),
@@ -132,10 +134,14 @@ pub(crate) fn bytes(rt: &impl Abort, alloc: Global, text: &[u8]) -> Vec<u8> {
     Vec::from_slice(alloc, text).expect(rt, "memory was missing")
 }
 
-/// The agreement with a partner on PO850.
-fn agreed(rt: &impl Abort, alloc: Global, partner: Party) -> Agreement {
+/// The agreement with a partner on PO850, lenient or not.
+fn agreed(rt: &impl Abort, alloc: Global, partner: Party, lenient: bool) -> Agreement {
     let pairs = Vec::from_slice(alloc, &[(*b"PO", *b"850")]).expect(rt, "memory was missing");
-    Agreement { partner, pairs }
+    Agreement {
+        partner,
+        lenient,
+        pairs,
+    }
 }
 
 /// A packet on the wire, as it is asked that it comes.
@@ -174,10 +180,16 @@ pub(crate) fn ask_of<W: Wait + Abort>(
     match line {
         Line::Enrol(party, node) => Ask::Do(Action::Enrol { party, node }),
         Line::Agree(partner) => Ask::Do(Action::Agree {
-            agreement: agreed(rt, alloc, partner),
+            agreement: agreed(rt, alloc, partner, false),
+        }),
+        Line::AgreeLeniently(partner) => Ask::Do(Action::Agree {
+            agreement: agreed(rt, alloc, partner, true),
         }),
         Line::Submit => Ask::Do(Action::SubmitPrepared {
             bytes: bytes(rt, alloc, ORDER),
+        }),
+        Line::Prepared(text) => Ask::Do(Action::SubmitPrepared {
+            bytes: bytes(rt, alloc, text),
         }),
         Line::Deliver(from, event, place) => delivery(rt, wire, from, node, event, place),
         Line::Tick(now) => Ask::Do(Action::Tick { now }),

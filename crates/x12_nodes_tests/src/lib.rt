@@ -16,6 +16,8 @@ mod logs;
 #[cfg(test)]
 mod memory;
 #[cfg(test)]
+mod noted;
+#[cfg(test)]
 mod refusals;
 #[cfg(test)]
 mod settlements;

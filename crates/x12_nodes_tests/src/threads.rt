@@ -119,7 +119,7 @@ fn passes_of_play<W: Wait + Abort + Threads + Sync>(
 }
 
 /// The key of ALPHA's order.
-const FIRST: SetKey = SetKey {
+pub(crate) const FIRST: SetKey = SetKey {
     sender: ALPHA,
     icn: 1,
     group: 1,

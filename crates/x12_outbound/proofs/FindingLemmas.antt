@@ -9,10 +9,10 @@ use Rattle.std.proofs.Math.Seq.{drop-cons}
 use Rattle.x12_envelopes.specs.declared.party.Party.{Party}
 use Rattle.x12_judge.specs.Agreement.{is_same_party}
 use Rattle.x12_acks.specs.Submission.{TransactionSetKey}
-use Rattle.x12_acks.specs.Evidence.{Evidence, tells, accepted, rejected, FinalFate as Final}
+use Rattle.x12_acks.specs.Evidence.{Evidence, tells, accepted, noted, rejected, FinalFate as Final}
 use Rattle.x12_acks.specs.Key.{is_same_key}
 use Rattle.x12_outbound.specs.declared.fate.Fate.{Fate}
-use Rattle.x12_outbound.specs.declared.fate.Fate.TheVariants.{Pending, Accepted, Rejected}
+use Rattle.x12_outbound.specs.declared.fate.Fate.TheVariants.{Pending, Accepted, Noted, Rejected}
 use Rattle.x12_outbound.specs.declared.fate.FinalFate.{FinalFate}
 use Rattle.x12_outbound.specs.declared.evidence.Statement.{Statement}
 use Rattle.x12_outbound.specs.declared.evidence.Piece.{Piece}
@@ -54,8 +54,13 @@ pending_by : (o : Option Fate) (final : Final) → finding_by_fate o final ≡ S
 pending_by None final settles = absurd (let no : ⊥ = cc in no)
 pending_by (Some Pending) final settles = refl
 pending_by (Some Accepted) accepted settles = absurd (let no : ⊥ = cc in no)
+pending_by (Some Accepted) noted settles = absurd (let no : ⊥ = cc in no)
+pending_by (Some Noted) accepted settles = absurd (let no : ⊥ = cc in no)
+pending_by (Some Noted) noted settles = absurd (let no : ⊥ = cc in no)
+pending_by (Some Noted) rejected settles = absurd (let no : ⊥ = cc in no)
 pending_by (Some Accepted) rejected settles = absurd (let no : ⊥ = cc in no)
 pending_by (Some Rejected) accepted settles = absurd (let no : ⊥ = cc in no)
+pending_by (Some Rejected) noted settles = absurd (let no : ⊥ = cc in no)
 pending_by (Some Rejected) rejected settles = absurd (let no : ⊥ = cc in no)
 
 -- what is found at a set that is settled

@@ -4,12 +4,12 @@ use mathlib.Core.Path.{sym, ap, ap₂, subst, ◌∙◌}
 use Rattle.x12_envelopes.specs.declared.party.Party.{Party}
 use Rattle.x12_judge.specs.Agreement.{is_same_party}
 use Rattle.x12_acks.specs.Submission.{TransactionSetKey}
-use Rattle.x12_acks.specs.Evidence.{Evidence, tells, unmatched, FinalFate, accepted, rejected, evidence_of}
+use Rattle.x12_acks.specs.Evidence.{Evidence, tells, unmatched, FinalFate, accepted, noted, rejected, evidence_of}
 use Rattle.x12_acks.specs.Key.{is_same_key}
 use Rattle.x12_acks.specs.Named.{tells_of, EvidenceOfEach}
 use Rattle.std.proofs.Common.{eqb-true}
 use Rattle.x12_outbound.specs.declared.fate.Fate.{Fate}
-use Rattle.x12_outbound.specs.declared.fate.Fate.TheVariants.{Pending, Accepted, Rejected}
+use Rattle.x12_outbound.specs.declared.fate.Fate.TheVariants.{Pending, Accepted, Noted, Rejected}
 use Rattle.x12_outbound.specs.Fate.{ended}
 use Rattle.x12_outbound.specs.Settling.{Fates, finding_by_fate, finding, with_fate, fates_by, fates_after, settled_fates}
 use Rattle.x12_outbound.specs.FirstEvidence.{first_about, fate_by_first, FirstEvidenceSettles, FateOfEach, OpenOnesSettleAlone}
@@ -30,6 +30,7 @@ nothing_settles : (o : Option Fate) → o ≡ fate_by_first None o
 nothing_settles None = refl
 nothing_settles (Some Pending) = refl
 nothing_settles (Some Accepted) = refl
+nothing_settles (Some Noted) = refl
 nothing_settles (Some Rejected) = refl
 
 -- one piece more
@@ -41,6 +42,11 @@ one_more fates key k fate later = by (is_same_key key k) refl (fates key) refl f
     final accepted = cases later
       where
         cases : (l : Option FinalFate) → fate_by_first l (Some Accepted) ≡ Some Accepted
+        cases (Some f) = refl
+        cases None = refl
+    final noted = cases later
+      where
+        cases : (l : Option FinalFate) → fate_by_first l (Some Noted) ≡ Some Noted
         cases (Some f) = refl
         cases None = refl
     final rejected = cases later
@@ -61,6 +67,11 @@ one_more fates key k fate later = by (is_same_key key k) refl (fates key) refl f
         cases : (l : Option FinalFate) → fate_by_first l (Some Accepted) ≡ Some Accepted
         cases (Some f) = refl
         cases None = refl
+    kept (Some Noted) f apart = cases later
+      where
+        cases : (l : Option FinalFate) → fate_by_first l (Some Noted) ≡ Some Noted
+        cases (Some f) = refl
+        cases None = refl
     kept (Some Rejected) f apart = cases later
       where
         cases : (l : Option FinalFate) → fate_by_first l (Some Rejected) ≡ Some Rejected
@@ -71,14 +82,24 @@ one_more fates key k fate later = by (is_same_key key k) refl (fates key) refl f
     by true is (Some Pending) now fate = rw (now, is, sym (ap fates (same_key key k is)) ∙ now) (final fate)
     by true is None now fate = rw (now, is, sym (ap fates (same_key key k is)) ∙ now) (kept None fate (λ e. absurd cc))
     by true is (Some Accepted) now accepted = rw (now, is, sym (ap fates (same_key key k is)) ∙ now) (kept (Some Accepted) accepted (λ e. absurd cc))
+    by true is (Some Accepted) now noted = rw (now, is, sym (ap fates (same_key key k is)) ∙ now) (kept (Some Accepted) noted (λ e. absurd cc))
+    by true is (Some Noted) now accepted = rw (now, is, sym (ap fates (same_key key k is)) ∙ now) (kept (Some Noted) accepted (λ e. absurd cc))
+    by true is (Some Noted) now noted = rw (now, is, sym (ap fates (same_key key k is)) ∙ now) (kept (Some Noted) noted (λ e. absurd cc))
+    by true is (Some Noted) now rejected = rw (now, is, sym (ap fates (same_key key k is)) ∙ now) (kept (Some Noted) rejected (λ e. absurd cc))
     by true is (Some Accepted) now rejected = rw (now, is, sym (ap fates (same_key key k is)) ∙ now) (kept (Some Accepted) rejected (λ e. absurd cc))
     by true is (Some Rejected) now accepted = rw (now, is, sym (ap fates (same_key key k is)) ∙ now) (kept (Some Rejected) accepted (λ e. absurd cc))
+    by true is (Some Rejected) now noted = rw (now, is, sym (ap fates (same_key key k is)) ∙ now) (kept (Some Rejected) noted (λ e. absurd cc))
     by true is (Some Rejected) now rejected = rw (now, is, sym (ap fates (same_key key k is)) ∙ now) (kept (Some Rejected) rejected (λ e. absurd cc))
     by false is (Some Pending) now fate = rw (now, is) refl
     by false is None now fate = rw (now, is) refl
     by false is (Some Accepted) now accepted = rw (now, is) refl
+    by false is (Some Accepted) now noted = rw (now, is) refl
+    by false is (Some Noted) now accepted = rw (now, is) refl
+    by false is (Some Noted) now noted = rw (now, is) refl
+    by false is (Some Noted) now rejected = rw (now, is) refl
     by false is (Some Accepted) now rejected = rw (now, is) refl
     by false is (Some Rejected) now accepted = rw (now, is) refl
+    by false is (Some Rejected) now noted = rw (now, is) refl
     by false is (Some Rejected) now rejected = rw (now, is) refl
 
 pub first_evidence_settles : FirstEvidenceSettles

@@ -9,11 +9,11 @@ use Rattle.x12_judge.specs.Agreement.{is_same_party}
 use Rattle.x12_acks.specs.Answer.{Acknowledgment}
 use Rattle.x12_acks.specs.Submission.{Submission, TransactionSetKey}
 use Rattle.x12_acks.specs.Key.{is_same_key}
-use Rattle.x12_acks.specs.Evidence.{Evidence, tells, unmatched, evidence_of, FinalFate, accepted, rejected}
+use Rattle.x12_acks.specs.Evidence.{Evidence, tells, unmatched, evidence_of, FinalFate, accepted, noted, rejected}
 use Rattle.x12_numbers.proofs.Shelf.{found_passes, none_in_nil, contains_cons, contains_head, contains_tail, map_twice}
 use Rattle.x12_outbound.specs.Hubs.{hubs_of}
 use Rattle.x12_outbound.specs.declared.fate.Fate.{Fate}
-use Rattle.x12_outbound.specs.declared.fate.Fate.TheVariants.{Pending, Accepted, Rejected}
+use Rattle.x12_outbound.specs.declared.fate.Fate.TheVariants.{Pending, Accepted, Noted, Rejected}
 use Rattle.x12_outbound.specs.declared.evidence.Statement.{Statement}
 use Rattle.x12_outbound.specs.declared.evidence.Piece.{Piece}
 use Rattle.x12_outbound.specs.Piece.{Finding, Settles, SetStatement, PlannedPiece, set_statement_view, piece_view}
@@ -48,8 +48,13 @@ final_settles : (o : Option Fate) (fate : FinalFate) → is_pending_at o ≡ fal
 final_settles None fate final = refl
 final_settles (Some Pending) fate final = absurd (let no : ⊥ = cc in no)
 final_settles (Some Accepted) accepted final = refl
+final_settles (Some Accepted) noted final = refl
+final_settles (Some Noted) accepted final = refl
+final_settles (Some Noted) noted final = refl
+final_settles (Some Noted) rejected final = refl
 final_settles (Some Accepted) rejected final = refl
 final_settles (Some Rejected) accepted final = refl
+final_settles (Some Rejected) noted final = refl
 final_settles (Some Rejected) rejected final = refl
 
 agree_finding : (f g : Fates) → Agree f g → (e : Evidence) → is_settling (finding f e) ≡ is_settling (finding g e)
@@ -97,6 +102,7 @@ settled_back f (tells key fate) k pending = by (is_same_key key k) fate pending
   where
     by : (b : Bool) (fate : FinalFate) → (if b then Some (ended fate) else f k) ≡ Some Pending → f k ≡ Some Pending
     by true accepted pending = absurd (let no : ⊥ = cc in no)
+    by true noted pending = absurd (let no : ⊥ = cc in no)
     by true rejected pending = absurd (let no : ⊥ = cc in no)
     by false fate pending = pending
 
@@ -110,8 +116,13 @@ pending_from : (o : Option Fate) (fate : FinalFate) → true ≡ is_settling (fi
 pending_from None fate settles = absurd (let no : ⊥ = cc in no)
 pending_from (Some Pending) fate settles = refl
 pending_from (Some Accepted) accepted settles = absurd (let no : ⊥ = cc in no)
+pending_from (Some Accepted) noted settles = absurd (let no : ⊥ = cc in no)
+pending_from (Some Noted) accepted settles = absurd (let no : ⊥ = cc in no)
+pending_from (Some Noted) noted settles = absurd (let no : ⊥ = cc in no)
+pending_from (Some Noted) rejected settles = absurd (let no : ⊥ = cc in no)
 pending_from (Some Accepted) rejected settles = absurd (let no : ⊥ = cc in no)
 pending_from (Some Rejected) accepted settles = absurd (let no : ⊥ = cc in no)
+pending_from (Some Rejected) noted settles = absurd (let no : ⊥ = cc in no)
 pending_from (Some Rejected) rejected settles = absurd (let no : ⊥ = cc in no)
 
 -- A piece that settles a set names its numbers, where all pieces do.
@@ -172,6 +183,7 @@ module _ (v u : OutboundLedger) (beside : IsClosedBeside v u) where
       by None other = refl
       by (Some Pending) other = absurd (other refl)
       by (Some Accepted) other = refl
+      by (Some Noted) other = refl
       by (Some Rejected) other = refl
 
   agree : Agree (fates_of_both v u) (fates v)

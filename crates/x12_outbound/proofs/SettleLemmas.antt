@@ -4,9 +4,9 @@ use Rattle.std.proofs.lemmas.Bool.{cases_Bool}
 use Rattle.x12_envelopes.specs.declared.party.Party.{Party}
 use Rattle.x12_judge.specs.Agreement.{is_same_party}
 use Rattle.x12_acks.specs.Submission.{TransactionSetKey}
-use Rattle.x12_acks.specs.Evidence.{Evidence, FinalFate, accepted, rejected}
+use Rattle.x12_acks.specs.Evidence.{Evidence, FinalFate, accepted, noted, rejected}
 use Rattle.x12_outbound.specs.declared.fate.Fate.{Fate}
-use Rattle.x12_outbound.specs.declared.fate.Fate.TheVariants.{Pending, Accepted, Rejected}
+use Rattle.x12_outbound.specs.declared.fate.Fate.TheVariants.{Pending, Accepted, Noted, Rejected}
 use Rattle.x12_outbound.specs.Piece.{Finding, Settles, Repeats, Conflicts, Unmatched, SetStatement, PlannedPiece}
 use Rattle.x12_acks.specs.Key.{is_same_key}
 use Rattle.x12_outbound.specs.Fate.{ended}
@@ -66,11 +66,17 @@ pub record Aims (fs : Fates) (p : PlannedPiece) (about : TransactionSetKey) : Ty
 
 pending_from_settles : (o : Option Fate) (fate : FinalFate) → Settles ≡ finding_by_fate o fate → o ≡ Some Pending
 pending_from_settles None accepted same = absurd (let no : ⊥ = cc in no)
+pending_from_settles None noted same = absurd (let no : ⊥ = cc in no)
 pending_from_settles None rejected same = absurd (let no : ⊥ = cc in no)
 pending_from_settles (Some Pending) fate same = refl
 pending_from_settles (Some Accepted) accepted same = absurd (let no : ⊥ = cc in no)
+pending_from_settles (Some Accepted) noted same = absurd (let no : ⊥ = cc in no)
+pending_from_settles (Some Noted) accepted same = absurd (let no : ⊥ = cc in no)
+pending_from_settles (Some Noted) noted same = absurd (let no : ⊥ = cc in no)
+pending_from_settles (Some Noted) rejected same = absurd (let no : ⊥ = cc in no)
 pending_from_settles (Some Accepted) rejected same = absurd (let no : ⊥ = cc in no)
 pending_from_settles (Some Rejected) accepted same = absurd (let no : ⊥ = cc in no)
+pending_from_settles (Some Rejected) noted same = absurd (let no : ⊥ = cc in no)
 pending_from_settles (Some Rejected) rejected same = absurd (let no : ⊥ = cc in no)
 
 pub aims : (fs : Fates) (statement : Option SetStatement) (f : Finding) (about : TransactionSetKey) (fate : Fate) → is_settling f ≡ is_settling (finding fs (stated statement))

@@ -2,9 +2,9 @@
 -- set settles it, and a final fate never changes.
 use Rattle.std.specs.Prelude.{List, [], ◌∷◌, Option, Some, None, if◌then◌else◌, filter_map}
 use Rattle.x12_acks.specs.Submission.{TransactionSetKey}
-use Rattle.x12_acks.specs.Evidence.{Evidence, tells, unmatched, FinalFate, accepted, rejected}
+use Rattle.x12_acks.specs.Evidence.{Evidence, tells, unmatched, FinalFate, accepted, noted, rejected}
 use Rattle.x12_outbound.specs.declared.fate.Fate.{Fate}
-use Rattle.x12_outbound.specs.declared.fate.Fate.TheVariants.{Pending, Accepted, Rejected}
+use Rattle.x12_outbound.specs.declared.fate.Fate.TheVariants.{Pending, Accepted, Noted, Rejected}
 use Rattle.x12_acks.specs.declared.key.SetKey.{SetKey}
 use Rattle.x12_acks.specs.Key.{is_same_key, key_view}
 use Rattle.x12_outbound.specs.Fate.{ended}
@@ -15,13 +15,19 @@ use Rattle.x12_outbound.specs.Matching.{stated}
 abbrev pub Fates : Type 0
 Fates = TransactionSetKey → Option Fate
 
--- what evidence of this fate is for a set that fares so
+-- what evidence of this fate is for a set that fares so: that it is accepted, with or without errors noted,
+-- repeats either
 abbrev pub finding_by_fate : Option Fate → FinalFate → Finding
 finding_by_fate None fate = Unmatched
 finding_by_fate (Some Pending) fate = Settles
 finding_by_fate (Some Accepted) accepted = Repeats
+finding_by_fate (Some Accepted) noted = Repeats
 finding_by_fate (Some Accepted) rejected = Conflicts
+finding_by_fate (Some Noted) accepted = Repeats
+finding_by_fate (Some Noted) noted = Repeats
+finding_by_fate (Some Noted) rejected = Conflicts
 finding_by_fate (Some Rejected) accepted = Conflicts
+finding_by_fate (Some Rejected) noted = Conflicts
 finding_by_fate (Some Rejected) rejected = Repeats
 
 -- what a piece of evidence is, where sets fare so

@@ -12,7 +12,7 @@ use Rattle.x12_outbound.specs.Matching.{stated}
 use Rattle.x12_outbound.specs.Subject.{Subject, subject_in}
 use Rattle.x12_outbound.specs.declared.entry.EntrySet.{EntrySet}
 use Rattle.x12_outbound.specs.declared.fate.FinalFate.{FinalFate}
-use Rattle.x12_outbound.specs.declared.fate.FinalFate.TheVariants.{Accepted, Rejected}
+use Rattle.x12_outbound.specs.declared.fate.FinalFate.TheVariants.{Accepted, Noted, Rejected}
 use Rattle.x12_outbound.specs.declared.evidence.Naming.{Naming}
 use Rattle.x12_outbound.specs.declared.evidence.Naming.TheVariants.{Interchange, TransactionSet}
 use Rattle.x12_outbound.specs.declared.evidence.Statement.{Statement}
@@ -46,10 +46,10 @@ evidence_told s = stated (option_map set_statement_view s)
 abbrev pub subject_told : Option Statement → Option Subject
 subject_told s = subject_in (option_map set_statement_view s)
 
--- AK501: A and E accept, R, M, W and X reject
+-- AK501: A accepts, E accepts with errors noted, and R, M, W and X reject
 abbrev pub fate_by_code : AnswerCode → FinalFate
 fate_by_code CodeAccepted = Accepted
-fate_by_code ErrorsNoted = Accepted
+fate_by_code ErrorsNoted = Noted
 fate_by_code code = Rejected
 
 -- the first transaction set of this number, with its place

@@ -10,6 +10,8 @@ pub enum Fate {
     Pending,
     /// Evidence said that it was accepted.
     Accepted,
+    /// Evidence said that it was accepted, with errors noted.
+    Noted,
     /// Evidence said that it was rejected.
     Rejected,
 }
@@ -19,6 +21,8 @@ pub enum Fate {
 pub(crate) enum FinalFate {
     /// It was accepted.
     Accepted,
+    /// It was accepted, with errors noted.
+    Noted,
     /// It was rejected.
     Rejected,
 }
@@ -30,6 +34,7 @@ impl FinalFate {
     {
         match self {
             FinalFate::Accepted => Fate::Accepted,
+            FinalFate::Noted => Fate::Noted,
             FinalFate::Rejected => Fate::Rejected,
         }
     }

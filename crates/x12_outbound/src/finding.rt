@@ -1,5 +1,5 @@
 //! What each piece of evidence is for a ledger, the pieces before it counted.
-ghost use Rattle.std.specs.Prelude.{◌≡◌, IfOk, OnOk, map};
+ghost use Rattle.std.specs.Prelude.{◌≡◌, IfOk, OnOk, map, Some};
 ghost use Rattle.x12_acks.specs.Key.{key_view};
 ghost use Rattle.x12_acks.specs.Submission.{TransactionSetKey};
 ghost use Rattle.x12_outbound.specs.Fate.{final_fate};
@@ -20,6 +20,18 @@ use x12_envelopes::Party;
 /// The sets that earlier pieces settle, each by its interchange's number and its places.
 type Settled = BTreeMap<(u32, u16, u16), FinalFate>;
 
+/// What evidence of this fate is for a set that was accepted, with or without errors noted.
+fn finding_at_accepted(fate: FinalFate) -> Finding
+    ensures accepted { finding_view result ≡ finding_by_fate (Some Fate.Accepted) (final_fate fate) }
+    ensures noted { finding_view result ≡ finding_by_fate (Some Fate.Noted) (final_fate fate) }
+{
+    match fate {
+        FinalFate::Accepted => Finding::Repeats,
+        FinalFate::Noted => Finding::Repeats,
+        FinalFate::Rejected => Finding::Conflicts,
+    }
+}
+
 /// What evidence of this fate is for a set that fares so.
 fn finding_at(fares: Option<Fate>, fate: FinalFate) -> Finding
     ensures { finding_view result ≡ finding_by_fate fares (final_fate fate) }
@@ -27,12 +39,11 @@ fn finding_at(fares: Option<Fate>, fate: FinalFate) -> Finding
     match fares {
         None => Finding::Unmatched,
         Some(Fate::Pending) => Finding::Settles,
-        Some(Fate::Accepted) => match fate {
-            FinalFate::Accepted => Finding::Repeats,
-            FinalFate::Rejected => Finding::Conflicts,
-        },
+        Some(Fate::Accepted) => finding_at_accepted(fate),
+        Some(Fate::Noted) => finding_at_accepted(fate),
         Some(Fate::Rejected) => match fate {
             FinalFate::Accepted => Finding::Conflicts,
+            FinalFate::Noted => Finding::Conflicts,
             FinalFate::Rejected => Finding::Repeats,
         },
     }

@@ -79,7 +79,7 @@ fn fate_by(code: AnswerCode) -> FinalFate
 {
     match code {
         AnswerCode::Accepted => FinalFate::Accepted,
-        AnswerCode::ErrorsNoted => FinalFate::Accepted,
+        AnswerCode::ErrorsNoted => FinalFate::Noted,
         _ => FinalFate::Rejected,
     }
 }

@@ -15,28 +15,27 @@ use Rattle.x12_judge.specs.Agreement.{TradingAgreement}
 use Rattle.x12_judge.specs.Bound.{IsReadOf}
 use Rattle.x12_judge.specs.Interchange.{reading_is_silent, reading_view}
 use Rattle.x12_judge.specs.Verdict.{judgement_by, judgement_of}
-use Rattle.x12_acks.specs.Accepted.{accepted_by_verdict}
+use Rattle.x12_acks.specs.Accepted.{accepted_by_verdict, noted_by_verdict}
 use Rattle.x12_acks.specs.Answer.{answers_of}
 use Rattle.x12_acks.specs.Evidence.{evidence_of}
-use Rattle.x12_acks.specs.Place.{accepted_by_reply}
+use Rattle.x12_acks.specs.Place.{accepted_by_reply, noted_by_reply}
 use Rattle.x12_acks.specs.Reply.{reply_of, refusal_of}
 use Rattle.x12_acks.specs.Submission.{submission_of}
 use Rattle.x12_profile.specs.Interchange.{Bytes, PlaceOfSet, Book, Order}
 use Rattle.x12_profile.specs.Reading.{header_in, outline_in, answers_in, if_ok}
 use Rattle.x12_profile.specs.Order.{order_interchange}
 use Rattle.x12_profile.specs.declared.edition.Edition.{Edition}
-use Rattle.x12_profile.specs.declared.edition.Edition.TheVariants.{First}
-use Rattle.x12_profile.specs.X12.{x12, accepted_in, result_at, group_numbers, is_order_outline, is_refused, judged_by, needs_of, sets_by_place, submission_in_bytes, told_by_piece}
+use Rattle.x12_profile.specs.X12.{x12, accepted_in, noted_in, pieces_read, result_at, group_numbers, is_order_outline, is_refused, judged_by, needs_of, sets_by_place, submission_in_bytes, told_by_piece}
 
--- by the one edition
+-- by each edition so far
 pub is_first : (ed : Edition) (me : Party) (a : List TradingAgreement) (h : Header) (b : Bytes) → judged_by ed me a h b ≡ judgement_of me a h b
-is_first First me a h b = refl
+is_first ed me a h b = refl
 
 -- what was read of bytes says what they deserve
 pub judged_as_read : (ed : Edition) (me : Party) (a : List TradingAgreement) (h : Header) (b : Bytes) (r : Result Outline OutlineFault)
     → IsReadOf b h r → judgement_by me a h (reading_view h.delims r) ≡ judged_by ed me a h b
 unfolding judgement_of
-judged_as_read First me a h b r read = ap (judgement_by me a h) read.is
+judged_as_read ed me a h b r read = ap (judgement_by me a h) read.is
 
 -- bytes with a header
 pub header_known : (b : Bytes) → IsTrue (x12.has_header b) → (h : Header) × (header_of b ≡ Ok h)
@@ -68,7 +67,7 @@ module _ (b : Bytes) (h : Header) (is : header_of b ≡ Ok h) where
   unfolding x12 header_in
   refuses_is ed me = rw is refl
 
-  pub verdict_is : (ed : Edition) (me : Party) (a : List TradingAgreement) (k : PlaceOfSet) → x12.verdict ed me a b k ≡ result_at k (accepted_by_verdict h.sender h.icn (judged_by ed me a h b).verdict)
+  pub verdict_is : (ed : Edition) (me : Party) (a : List TradingAgreement) (k : PlaceOfSet) → x12.verdict ed me a b k ≡ result_at k (noted_by_verdict h.sender h.icn (judged_by ed me a h b).verdict) (accepted_by_verdict h.sender h.icn (judged_by ed me a h b).verdict)
   unfolding x12 header_in
   verdict_is ed me a k = rw is refl
 
@@ -110,6 +109,10 @@ module _ (b : Bytes) (h : Header) (is : header_of b ≡ Ok h) where
     unfolding header_in
     accepted_are r = rw (is, there) refl
 
+    pub noted_are : (r : Bytes) → noted_in b r ≡ noted_by_reply h o (answers_in r)
+    unfolding header_in
+    noted_are r = rw (is, there) refl
+
     pub submission_is : submission_in_bytes b ≡ submission_of h b o ∷ []
     unfolding header_in
     submission_is = rw (is, there) refl
@@ -119,6 +122,10 @@ module _ (b : Bytes) (h : Header) (is : header_of b ≡ Ok h) where
     pub no_accepted : (r : Bytes) → accepted_in b r ≡ []
     unfolding header_in
     no_accepted r = rw (is, there) refl
+
+    pub no_noted : (r : Bytes) → noted_in b r ≡ []
+    unfolding header_in
+    no_noted r = rw (is, there) refl
 
     pub no_submission : submission_in_bytes b ≡ []
     unfolding header_in
@@ -146,11 +153,11 @@ module _ (b : Bytes) (f : HeaderFault) (is : header_of b ≡ Err f) where
   unfolding x12 header_in outline_in
   not_submitted_of = rw is refl
 
-pub result_is : (b r : Bytes) (k : PlaceOfSet) → x12.result b r k ≡ result_at k (accepted_in b r)
+pub result_is : (b r : Bytes) (k : PlaceOfSet) → x12.result b r k ≡ result_at k (noted_in b r) (accepted_in b r)
 unfolding x12
 result_is b r k = refl
 
-pub evidence_is : (ed : Edition) (hubs : List Party) (b x : Bytes) → x12.evidence ed hubs b x ≡ flat_map told_by_piece (evidence_of hubs (submission_in_bytes x ++ []) (x12.sender b) (answers_in b))
+pub evidence_is : (ed : Edition) (hubs : List Party) (b x : Bytes) → x12.evidence ed hubs b x ≡ flat_map told_by_piece (pieces_read ed (evidence_of hubs (submission_in_bytes x ++ []) (x12.sender b) (answers_in b)))
 unfolding x12
 evidence_is ed hubs b x = refl
 

@@ -25,9 +25,10 @@ use Rattle.x12_acks.specs.Evidence.{answer_evidence, evidence_of, group_evidence
 use Rattle.x12_profile.specs.declared.edition.Edition.{Edition}
 use Rattle.x12_profile.specs.Interchange.{Bytes, PlacedEvidence}
 use Rattle.x12_profile.specs.Reading.{answers_in}
-use Rattle.x12_profile.specs.X12.{x12, submission_in_bytes, told_by_piece}
+use Rattle.x12_profile.specs.X12.{x12, submission_in_bytes, pieces_read, told_by_piece}
 use Rattle.x12_numbers.proofs.Shelf.{none_in_nil, contains_head, contains_tail}
 use Rattle.x12_profile.proofs.FieldLemmas as field
+use Rattle.x12_profile.proofs.PlaceLemmas.{told_as_read, was_told}
 use Rattle.x12_profile.proofs.PartyLemmas.{is_same_party-Decides}
 
 -- a group of this code and number
@@ -127,16 +128,20 @@ module _ (ed : Edition) (hubs : List Party) (b x : Bytes) (e : PlacedEvidence) (
   abbrev evidence_for : List Submission → List PlacedEvidence
   evidence_for ss = flat_map told_by_piece (evidence_of hubs (ss ++ []) (x12.sender b) (answers_in b))
 
-  told_for : (ss : List Submission) → submission_in_bytes x ≡ ss → Contains (evidence_for ss) e
-  told_for ss is = subst (λ es. Contains es e) (field.evidence_is ed hubs b x ∙ ap evidence_for is) tells
+  -- as it was told, before it was read by the edition
+  told_for : (ss : List Submission) → submission_in_bytes x ≡ ss → (f : PlacedEvidence) × Contains (evidence_for ss) f
+  told_for ss is =
+      let pieces = evidence_of hubs (ss ++ []) (x12.sender b) (answers_in b) in
+      was_told ed (evidence_for ss) e (subst (λ es. Contains es e) (field.evidence_is ed hubs b x ∙ ap (λ zs. flat_map told_by_piece (pieces_read ed (evidence_of hubs (zs ++ []) (x12.sender b) (answers_in b)))) is ∙ told_as_read ed pieces) tells)
 
   nothing : submission_in_bytes x ≡ [] → Telling hubs b x
-  nothing is = none_in_nil e (subst (λ es. Contains es e) (no_evidence hubs (x12.sender b) (answers_in b)) (told_for [] is))
+  nothing is = let f = told_for [] is in none_in_nil f.0 (subst (λ es. Contains es f.0) (no_evidence hubs (x12.sender b) (answers_in b)) f.1)
 
   by_outline : (h : Header) → header_of x ≡ Ok h → (o : Result Interchange OutlineFault) → outline_of h.delims x ≡ o → Telling hubs b x
   by_outline h is (Err f) there = nothing (field.no_submission x h is f there)
   by_outline h is (Ok o) there =
-      let one = of_answers hubs (x12.sender b) (submission_of h x o) (answers_in b) e (told_for (submission_of h x o ∷ []) (field.submission_is x h is o there)) in
+      let f = told_for (submission_of h x o ∷ []) (field.submission_is x h is o there) in
+      let one = of_answers hubs (x12.sender b) (submission_of h x o) (answers_in b) f.0 f.1 in
       record { header = h; outline = o; is_header = is; is_outline = there; answer = one.0; answers = one.1; named = one.2 }
 
   by_header : (r : Result Header HeaderFault) → header_of x ≡ r → Telling hubs b x

@@ -10,13 +10,17 @@ use Rattle.std.proofs.lemmas.List.{map-append}
 use Rattle.std.proofs.lemmas.List.Elements.{filter-append, Contains-append_cases}
 use Rattle.x12_envelopes.specs.declared.header.Header.{Header}
 use Rattle.x12_envelopes.specs.Shape.{Interchange, FunctionalGroup, TransactionSet as ReadSet}
-use Rattle.x12_acks.specs.Evidence.{FinalFate, accepted, rejected, tells_each}
+use Rattle.x12_acks.specs.Evidence.{FinalFate, Evidence as Piece, tells, unmatched, rejected, tells_each, fate_of_result}
+use Rattle.x12_judge.specs.declared.verdict.SetResult.{SetResult}
+use Rattle.x12_judge.specs.declared.verdict.SetResult.TheVariants.{Rejected}
+use Rattle.x12_profile.specs.declared.edition.Edition.{Edition}
+use Rattle.x12_profile.specs.declared.edition.Edition.TheVariants.{First, Second}
+use Rattle.x12_profile.specs.Edition.{fate_read}
 use Rattle.x12_acks.specs.Submission.{Submission, KeyedSet, keyed_set, keyed_group, keyed_groups, keyed_sets, submission_of, submitted_group, submitted_set}
 use Rattle.x12_acks.specs.Told.{told_at}
 use Rattle.x12_profile.specs.Interchange.{Bytes, PlaceOfSet, PlacedTransactionSet, PlacedEvidence, is_place, evidence_by}
-use Rattle.x12_profile.specs.Result.{SetResult, Rejects, fate_of_result, result_if}
-use Rattle.x12_profile.specs.X12.{sets_of_group, sets_by_place, told_by_piece}
-use Rattle.x12_numbers.proofs.Shelf.{none_in_nil, contains_cons, eq_itself}
+use Rattle.x12_profile.specs.X12.{sets_of_group, sets_by_place, told_by_piece, pieces_read, piece_before}
+use Rattle.x12_numbers.proofs.Shelf.{none_in_nil, contains_cons, contains_head, contains_tail, eq_itself}
 use Rattle.std.proofs.lemmas.Bool.{and_right}
 use Rattle.x12_acks.proofs.ToldLemmas.{each_rejected}
 
@@ -29,22 +33,56 @@ placed_from group functional m ss = map (at_place group functional) (enumerate_f
 
 -- What is told of each.
 
-final_is : (b : Bool) → (if b then accepted else rejected) ≡ fate_of_result (result_if b)
-final_is true = refl
-final_is false = refl
+-- evidence as it is read by an edition, in two steps
+abbrev placed_before : PlacedEvidence → PlacedEvidence
+placed_before e = record { place = e.place; fate = fate_read First e.fate }
+
+abbrev pub placed_read : Edition → List PlacedEvidence → List PlacedEvidence
+placed_read First es = map placed_before es
+placed_read Second es = es
+
+pub told_as_read : (ed : Edition) (pieces : List Piece) → flat_map told_by_piece (pieces_read ed pieces) ≡ placed_read ed (flat_map told_by_piece pieces)
+told_as_read Second pieces = refl
+told_as_read First [] = refl
+told_as_read First (tells key fate ∷ pieces) = ap (λ (es : List PlacedEvidence). record { place = record { group = key.group; set = key.set }; fate = fate_read First fate } ∷ es) (told_as_read First pieces)
+told_as_read First (unmatched ∷ pieces) = told_as_read First pieces
+
+-- the verdict of each set, as it is read
+pub verdict_read : (ed : Edition) (v : PlaceOfSet → SetResult) (sets : List PlacedTransactionSet) → placed_read ed (map (λ s. record { place = s.place; fate = fate_of_result (v s.place) }) sets) ≡ evidence_by ed v sets
+verdict_read Second v sets = refl
+verdict_read First v [] = refl
+verdict_read First v (s ∷ sets) = ap (λ (es : List PlacedEvidence). record { place = s.place; fate = fate_read First (fate_of_result (v s.place)) } ∷ es) (verdict_read First v sets)
+
+-- what is read was told
+pub was_told : (ed : Edition) (es : List PlacedEvidence) (e : PlacedEvidence) → Contains (placed_read ed es) e → (f : PlacedEvidence) × Contains es f
+was_told Second es e h = (e, h)
+was_told First [] e h = none_in_nil e h
+was_told First (f ∷ es) e h = elim (contains_cons e (placed_before f) (map placed_before es) h) [
+  | inl same ↦ (f, contains_head f es)
+  | inr later ↦ let rest = was_told First es e later in (rest.0, contains_tail rest.0 f es rest.1)
+]
+
+-- none, where none was
+pub none_read : (ed : Edition) → placed_read ed [] ≡ []
+none_read First = refl
+none_read Second = refl
 
 abbrev keyed_from : Submission → ℕ → ℕ → List ReadSet → List KeyedSet
 keyed_from e group m ss = map (λ s. keyed_set e group s.0 s.1) (enumerate_from m (map submitted_set ss))
 
-module _ (f : ℕ → ℕ → Bool) (e : Submission) where
+module _ (f : ℕ → ℕ → SetResult) (e : Submission) where
   abbrev at : PlaceOfSet → SetResult
-  at k = result_if (f k.group k.set)
+  at k = f k.group k.set
 
-  sets_told : (group : ℕ) (functional : List ℕ) (m : ℕ) (ss : List ReadSet) → flat_map told_by_piece (map (told_at f) (keyed_from e group m ss)) ≡ evidence_by at (placed_from group functional m ss)
+  -- what is told, before it is read by an edition
+  abbrev plainly : List PlacedTransactionSet → List PlacedEvidence
+  plainly sets = map (λ s. record { place = s.place; fate = fate_of_result (at s.place) }) sets
+
+  sets_told : (group : ℕ) (functional : List ℕ) (m : ℕ) (ss : List ReadSet) → flat_map told_by_piece (map (told_at f) (keyed_from e group m ss)) ≡ plainly (placed_from group functional m ss)
   sets_told group functional m [] = refl
-  sets_told group functional m (s ∷ ss) = ap₂ (λ (z : FinalFate) (es : List PlacedEvidence). record { place = record { group = group; set = m }; fate = z } ∷ es) (final_is (f group m)) (sets_told group functional (m + 1) ss)
+  sets_told group functional m (s ∷ ss) = ap (λ (es : List PlacedEvidence). record { place = record { group = group; set = m }; fate = fate_of_result (f group m) } ∷ es) (sets_told group functional (m + 1) ss)
 
-  groups_told : (n : ℕ) (gs : List FunctionalGroup) → flat_map told_by_piece (map (told_at f) (flat_map (λ g. g.sets) (map (λ g. keyed_group e g.0 g.1) (enumerate_from n (map submitted_group gs))))) ≡ evidence_by at (flat_map sets_of_group (enumerate_from n gs))
+  groups_told : (n : ℕ) (gs : List FunctionalGroup) → flat_map told_by_piece (map (told_at f) (flat_map (λ g. g.sets) (map (λ g. keyed_group e g.0 g.1) (enumerate_from n (map submitted_group gs))))) ≡ plainly (flat_map sets_of_group (enumerate_from n gs))
   groups_told n [] = refl
   groups_told n (g ∷ gs) =
       let own = keyed_from e n 1 g.sets in
@@ -55,12 +93,12 @@ module _ (f : ℕ → ℕ → Bool) (e : Submission) where
       ∙ sym (map-append (λ s. record { place = s.place; fate = fate_of_result (at s.place) }) (sets_of_group (n, g)) (flat_map sets_of_group (enumerate_from (n + 1) gs)))
 
 -- what is told of a submission's sets, by place
-pub all_told : (f : ℕ → ℕ → Bool) (h : Header) (x : Bytes) (o : Interchange) → flat_map told_by_piece (map (told_at f) (keyed_sets (submission_of h x o))) ≡ evidence_by (λ k. result_if (f k.group k.set)) (sets_by_place o)
+pub all_told : (ed : Edition) (f : ℕ → ℕ → SetResult) (h : Header) (x : Bytes) (o : Interchange) → flat_map told_by_piece (pieces_read ed (map (told_at f) (keyed_sets (submission_of h x o)))) ≡ evidence_by ed (λ k. f k.group k.set) (sets_by_place o)
 unfolding keyed_sets keyed_groups submission_of
-all_told f h x o = groups_told f (submission_of h x o) 1 o.groups
+all_told ed f h x o = told_as_read ed _ ∙ ap (placed_read ed) (groups_told f (submission_of h x o) 1 o.groups) ∙ verdict_read ed (λ k. f k.group k.set) (sets_by_place o)
 
-pub all_rejected : (h : Header) (x : Bytes) (o : Interchange) → flat_map told_by_piece (tells_each rejected (keyed_sets (submission_of h x o))) ≡ evidence_by (λ k. Rejects) (sets_by_place o)
-all_rejected h x o = ap (flat_map told_by_piece) (each_rejected (keyed_sets (submission_of h x o))) ∙ all_told (λ i j. false) h x o
+pub all_rejected : (ed : Edition) (h : Header) (x : Bytes) (o : Interchange) → flat_map told_by_piece (pieces_read ed (tells_each rejected (keyed_sets (submission_of h x o)))) ≡ evidence_by ed (λ k. Rejected) (sets_by_place o)
+all_rejected ed h x o = ap (λ es. flat_map told_by_piece (pieces_read ed es)) (each_rejected (keyed_sets (submission_of h x o))) ∙ all_told ed (λ i j. Rejected) h x o
 
 -- A place names one.
 

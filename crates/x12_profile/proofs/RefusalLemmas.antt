@@ -14,7 +14,7 @@ use Rattle.x12_acks.specs.Laws.{Tells, written_answers, written_ta1}
 use Rattle.x12_acks.specs.Reply.{refusal_of, reply_to, ta1_segment}
 use Rattle.x12_acks.specs.Submission.{keyed_sets, submission_of}
 use Rattle.x12_profile.specs.declared.edition.Edition.{Edition}
-use Rattle.x12_profile.specs.Result.{Rejects}
+use Rattle.x12_judge.specs.declared.verdict.SetResult.TheVariants.{Rejected}
 use Rattle.x12_profile.specs.Interchange.{Bytes, PlacedEvidence, evidence_by}
 use Rattle.x12_profile.specs.Laws.{IsTa1Refusal}
 use Rattle.x12_profile.specs.Reading.{answers_in}
@@ -93,15 +93,15 @@ module _ (g : Below) (me : Party) (b r : Bytes) (w : IsTa1Refusal x12 me b r) wh
   about ed hubs x e told = let t = telling ed hubs r x e told in field.number_is b h known.1 ∙ named_number hubs x t ∙ sym (number_of x t.header t.outline t.is_header)
 
   -- the same header, read of b as of a submission
-  tells_by : (s : submission.IsSubmitted b) (ed : Edition) (hubs : List Party) → Contains hubs me → x12.evidence ed hubs r b ≡ evidence_by (λ k. Rejects) (x12.sets b)
+  tells_by : (s : submission.IsSubmitted b) (ed : Edition) (hubs : List Party) → Contains hubs me → x12.evidence ed hubs r b ≡ evidence_by ed (λ k. Rejected) (x12.sets b)
   tells_by s ed hubs hub =
       let e = submission_of s.header b s.outline in
       let bytes : r ≡ written (refusal_of w.note s.header me w.at w.icn) = w.bytes ∙ field.refusal_is b s.header s.is_header w.note me w.at w.icn in
       let rejects : Tells hubs (e ∷ []) r (tells_each rejected (keyed_sets e)) = subst (λ z. Tells hubs (e ∷ []) z (tells_each rejected (keyed_sets e))) (sym bytes) (g.tells.refusal hubs me (e ∷ []) w.note s.header b s.outline w.at w.icn s.is_header (first_alone e) (inr (hub, plainly me w.plain)) w.within (small w.note w.known)) in
       evidence_told ed hubs r b s.header s.outline (tells_each rejected (keyed_sets e)) s.is_header s.is_outline rejects
-      ∙ all_rejected s.header b s.outline
-      ∙ ap (evidence_by (λ k. Rejects)) (sym (field.sets_are b s.header s.is_header s.outline s.is_outline))
+      ∙ all_rejected ed s.header b s.outline
+      ∙ ap (evidence_by ed (λ k. Rejected)) (sym (field.sets_are b s.header s.is_header s.outline s.is_outline))
 
   -- by a hub on a submission it rejects each set once
-  pub tells : IsTrue (x12.is_submission b) → (ed : Edition) (hubs : List Party) → Contains hubs me → x12.evidence ed hubs r b ≡ evidence_by (λ k. Rejects) (x12.sets b)
+  pub tells : IsTrue (x12.is_submission b) → (ed : Edition) (hubs : List Party) → Contains hubs me → x12.evidence ed hubs r b ≡ evidence_by ed (λ k. Rejected) (x12.sets b)
   tells orders ed hubs hub = tells_by (submission.submitted b orders) ed hubs hub

@@ -1,7 +1,7 @@
 -- A reply, at the profile: what it is, what it accepts, whom it is from and to.
 use Rattle.std.specs.Prelude.{◌≡◌, ◌≢◌, ℕ, ◌+◌, ◌≤◌, List, [], ◌∷◌, Bool, true, false, not, cond, map, filter, Option, Some, None, Result, Ok, Err, refl, IsTrue}
 use Rattle.std.specs.List.{enumerate_from}
-use mathlib.Core.Path.{sym, ap, ◌∙◌}
+use mathlib.Core.Path.{sym, ap, ap₂, ◌∙◌}
 use mathlib.Core.Logic.{inr}
 use Rattle.x12_envelopes.specs.declared.delimiters.Delims.{Delims}
 use Rattle.x12_envelopes.specs.declared.header.Header.{Header}
@@ -19,16 +19,17 @@ use Rattle.x12_judge.specs.Agreement.{TradingAgreement, is_same_party}
 use Rattle.x12_judge.specs.Group.{FunctionalGroupVerdict}
 use Rattle.x12_judge.specs.Interchange.{note_of_interchange}
 use Rattle.x12_judge.specs.Verdict.{judgement_of, verdict_by, verdicts_of_groups, group_is_acknowledgment}
-use Rattle.x12_acks.specs.Accepted.{AcceptedSet, accepted_by_verdict}
+use Rattle.x12_acks.specs.Accepted.{AcceptedSet, sets_by_verdict, accepted_by_verdict, noted_by_verdict}
+use Rattle.x12_acks.specs.Place.{sets_by_reply}
+use Rattle.x12_judge.specs.declared.verdict.SetResult.{SetResult}
+use Rattle.x12_judge.specs.Set.{takes, is_noted}
 use Rattle.x12_acks.specs.Laws.{written_answers}
-use Rattle.x12_acks.specs.Place.{accepted_by_reply}
 use Rattle.x12_acks.specs.Reply.{reply_of, reply_to, reply_tas, answer_groups, judged_groups}
 use Rattle.x12_profile.specs.Interchange.{Bytes, PlaceOfSet}
 use Rattle.x12_profile.specs.declared.edition.Edition.{Edition}
 use Rattle.x12_profile.specs.Laws.{IsReply}
 use Rattle.x12_profile.specs.Reading.{answers_in}
-use Rattle.x12_profile.specs.Result.{takes}
-use Rattle.x12_profile.specs.X12.{x12, accepted_in, result_at, group_numbers, is_refused}
+use Rattle.x12_profile.specs.X12.{x12, accepted_in, noted_in, result_at, group_numbers, is_refused}
 use Rattle.x12_profile.proofs.Below.{Below}
 use Rattle.x12_profile.proofs.FieldLemmas as field
 use Rattle.x12_profile.proofs.PartyLemmas.{is_same_party-Decides}
@@ -48,10 +49,10 @@ none_asked d at gcn (v ∷ vs) = refl
 
 -- What is accepted of an interchange without groups, or without those to be acknowledged, or to another receiver.
 
-none_by : (sender : Party) (icn : ℕ) (n : Option ℕ) → accepted_by_verdict sender icn (verdict_by n []) ≡ []
-unfolding accepted_by_verdict
-none_by sender icn None = refl
-none_by sender icn (Some n) = refl
+none_by : (test : SetResult → Bool) (sender : Party) (icn : ℕ) (n : Option ℕ) → sets_by_verdict test sender icn (verdict_by n []) ≡ []
+unfolding sets_by_verdict
+none_by test sender icn None = refl
+none_by test sender icn (Some n) = refl
 
 none_enumerated : (n : ℕ) (gs : List FunctionalGroup) → map (λ g. g.number) (filter (λ g. not (group_is_acknowledgment g)) gs) ≡ [] → filter (λ place. not (group_is_acknowledgment place.1)) (enumerate_from n gs) ≡ []
 none_enumerated n [] e = refl
@@ -62,20 +63,21 @@ none_enumerated n (z ∷ gs) e = by (group_is_acknowledgment z) e (none_enumerat
     by false e more = absurd cc
 
 module _ (me : Party) (a : List TradingAgreement) (h : Header) (b : Bytes) where
-  abbrev pub accepted : List AcceptedSet
-  accepted = accepted_by_verdict h.sender h.icn (judgement_of me a h b).verdict
+  -- the sets whose result by the verdict passes a test
+  abbrev pub kept : (SetResult → Bool) → List AcceptedSet
+  kept test = sets_by_verdict test h.sender h.icn (judgement_of me a h b).verdict
 
-  pub none_of_fault : (f : OutlineFault) → outline_of h.delims b ≡ Err f → accepted ≡ []
+  pub none_of_fault : (test : SetResult → Bool) (f : OutlineFault) → outline_of h.delims b ≡ Err f → kept test ≡ []
   unfolding judgement_of verdicts_of_groups
-  none_of_fault f is = rw is (none_by h.sender h.icn (note_of_interchange me h (Err f)))
+  none_of_fault test f is = rw is (none_by test h.sender h.icn (note_of_interchange me h (Err f)))
 
-  none_of_none : (o : Interchange) → outline_of h.delims b ≡ Ok o → group_numbers o ≡ [] → accepted ≡ []
+  none_of_none : (test : SetResult → Bool) (o : Interchange) → outline_of h.delims b ≡ Ok o → group_numbers o ≡ [] → kept test ≡ []
   unfolding judgement_of verdicts_of_groups
-  none_of_none o is none = rw (is, none_enumerated 1 o.groups none) (none_by h.sender h.icn (note_of_interchange me h (Ok o)))
+  none_of_none test o is none = rw (is, none_enumerated 1 o.groups none) (none_by test h.sender h.icn (note_of_interchange me h (Ok o)))
 
-  none_of_other : is_same_party h.receiver me ≡ false → accepted ≡ []
-  unfolding judgement_of note_of_interchange accepted_by_verdict
-  none_of_other is = rw is refl
+  none_of_other : (test : SetResult → Bool) → is_same_party h.receiver me ≡ false → kept test ≡ []
+  unfolding judgement_of note_of_interchange sets_by_verdict
+  none_of_other test is = rw is refl
 
   refused_other : is_same_party h.receiver me ≡ false → is_refused (judgement_of me a h b).verdict ≡ true
   unfolding judgement_of note_of_interchange
@@ -127,25 +129,32 @@ module _ (g : Below) (me : Party) (a : List TradingAgreement) (b r : Bytes) (w :
 
   -- What it accepts.
 
-  accepted_with : (o : Result Interchange OutlineFault) → outline_of h.delims b ≡ o → accepted_in b r ≡ accepted me a h b
+  accepted_with : (o : Result Interchange OutlineFault) → outline_of h.delims b ≡ o → accepted_in b r ≡ kept me a h b takes
   accepted_with (Ok o) is =
       field.accepted_are b h known.1 o is r
-      ∙ ap (accepted_by_reply h o) answers_are
-      ∙ g.places.segments me a h b o w.at w.book.interchange w.book.group is
-  accepted_with (Err f) is = field.no_accepted b h known.1 f is r ∙ sym (none_of_fault me a h b f is)
+      ∙ ap (sets_by_reply takes h o) answers_are
+      ∙ g.places.segments takes refl me a h b o w.at w.book.interchange w.book.group is
+  accepted_with (Err f) is = field.no_accepted b h known.1 f is r ∙ sym (none_of_fault me a h b takes f is)
 
-  verdict_here : (k : PlaceOfSet) → x12.verdict w.edition me a b k ≡ result_at k (accepted me a h b)
-  verdict_here k = field.verdict_is b h known.1 w.edition me a k ∙ ap (λ j. result_at k (accepted_by_verdict h.sender h.icn j.verdict)) (field.is_first w.edition me a h b)
+  noted_with : (o : Result Interchange OutlineFault) → outline_of h.delims b ≡ o → noted_in b r ≡ kept me a h b is_noted
+  noted_with (Ok o) is =
+      field.noted_are b h known.1 o is r
+      ∙ ap (sets_by_reply is_noted h o) answers_are
+      ∙ g.places.segments is_noted refl me a h b o w.at w.book.interchange w.book.group is
+  noted_with (Err f) is = field.no_noted b h known.1 f is r ∙ sym (none_of_fault me a h b is_noted f is)
+
+  verdict_here : (k : PlaceOfSet) → x12.verdict w.edition me a b k ≡ result_at k (kept me a h b is_noted) (kept me a h b takes)
+  verdict_here k = field.verdict_is b h known.1 w.edition me a k ∙ ap (λ j. result_at k (noted_by_verdict h.sender h.icn j.verdict) (accepted_by_verdict h.sender h.icn j.verdict)) (field.is_first w.edition me a h b)
 
   pub result : (k : PlaceOfSet) → x12.result b r k ≡ x12.verdict w.edition me a b k
-  result k = field.result_is b r k ∙ ap (result_at k) (accepted_with (outline_of h.delims b) refl) ∙ sym (verdict_here k)
+  result k = field.result_is b r k ∙ ap₂ (result_at k) (noted_with (outline_of h.delims b) refl) (accepted_with (outline_of h.delims b) refl) ∙ sym (verdict_here k)
 
-  nothing : accepted me a h b ≡ [] → (k : PlaceOfSet) → takes (x12.result b r k) ≡ false
-  nothing none k = ap takes (result k ∙ verdict_here k ∙ ap (result_at k) none)
+  nothing : ((test : SetResult → Bool) → kept me a h b test ≡ []) → (k : PlaceOfSet) → takes (x12.result b r k) ≡ false
+  nothing none k = ap takes (result k ∙ verdict_here k ∙ ap₂ (result_at k) (none is_noted) (none takes))
 
-  none_without : (o : Result Interchange OutlineFault) → outline_of h.delims b ≡ o → x12.groups b ≡ [] → accepted me a h b ≡ []
-  none_without (Ok o) is none = none_of_none me a h b o is (sym (field.groups_are b h known.1 o is) ∙ none)
-  none_without (Err f) is none = none_of_fault me a h b f is
+  none_without : (o : Result Interchange OutlineFault) → outline_of h.delims b ≡ o → x12.groups b ≡ [] → (test : SetResult → Bool) → kept me a h b test ≡ []
+  none_without (Ok o) is none test = none_of_none me a h b test o is (sym (field.groups_are b h known.1 o is) ∙ none)
+  none_without (Err f) is none test = none_of_fault me a h b test f is
 
   pub accepts_no_group : x12.groups b ≡ [] → (k : PlaceOfSet) → takes (x12.result b r k) ≡ false
   accepts_no_group none k = nothing (none_without (outline_of h.delims b) refl none) k
@@ -155,7 +164,7 @@ module _ (g : Below) (me : Party) (a : List TradingAgreement) (b r : Bytes) (w :
   other_party other true is = absurd (other (field.receiver_is b h known.1 ∙ (is_same_party-Decides h.receiver me).0 is))
 
   pub accepts_no_other : x12.receiver b ≢ me → (k : PlaceOfSet) → takes (x12.result b r k) ≡ false
-  accepts_no_other other k = nothing (none_of_other me a h b (other_party other (is_same_party h.receiver me) refl)) k
+  accepts_no_other other k = nothing (λ test. none_of_other me a h b test (other_party other (is_same_party h.receiver me) refl)) k
 
 -- A station refuses what isn't addressed to it.
 

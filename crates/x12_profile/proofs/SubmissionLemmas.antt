@@ -21,8 +21,9 @@ use Rattle.x12_acks.specs.Evidence.{evidence_of}
 use Rattle.x12_acks.specs.Laws.{IsOfOrders, HasDistinctSets}
 use Rattle.x12_profile.specs.Interchange.{Bytes, PlacedTransactionSet, is_place}
 use Rattle.x12_profile.specs.declared.edition.Edition.{Edition}
+use Rattle.x12_profile.specs.declared.edition.Edition.TheVariants.{First, Second}
 use Rattle.x12_profile.specs.Reading.{answers_in}
-use Rattle.x12_profile.specs.X12.{x12, are_new_numbers, is_order_group, submission_in_bytes, told_by_piece}
+use Rattle.x12_profile.specs.X12.{x12, are_new_numbers, is_order_group, submission_in_bytes, told_by_piece, pieces_read}
 use Rattle.x12_profile.proofs.FieldLemmas as field
 use Rattle.x12_numbers.proofs.Shelf.{none_in_nil, and_three, false_is_never_true, less_differs, none_passes}
 use Rattle.x12_profile.proofs.PlaceLemmas as place
@@ -131,12 +132,13 @@ module _ (x : Bytes) (s : IsSubmitted x) where
   unfolding answers_of
   answers_none = field.answers_are x s.header s.is_header s.outline s.is_outline ∙ rw (s.no_tas) (no_answers s.header.delims s.outline.groups alone)
 
-  none_told : (hubs : List Party) (y : Bytes) → flat_map told_by_piece (evidence_of hubs (submission_in_bytes y ++ []) (x12.sender x) []) ≡ []
+  none_told : (ed : Edition) (hubs : List Party) (y : Bytes) → flat_map told_by_piece (pieces_read ed (evidence_of hubs (submission_in_bytes y ++ []) (x12.sender x) [])) ≡ []
   unfolding evidence_of
-  none_told hubs y = refl
+  none_told First hubs y = refl
+  none_told Second hubs y = refl
 
   pub tells_nothing_by : (ed : Edition) (hubs : List Party) (y : Bytes) → x12.evidence ed hubs x y ≡ []
-  tells_nothing_by ed hubs y = field.evidence_is ed hubs x y ∙ ap (λ answers. flat_map told_by_piece (evidence_of hubs (submission_in_bytes y ++ []) (x12.sender x) answers)) answers_none ∙ none_told hubs y
+  tells_nothing_by ed hubs y = field.evidence_is ed hubs x y ∙ ap (λ answers. flat_map told_by_piece (pieces_read ed (evidence_of hubs (submission_in_bytes y ++ []) (x12.sender x) answers))) answers_none ∙ none_told ed hubs y
 
   no_numbers : (gs : List FunctionalGroup) → not (length gs == 0) ≡ true → map (λ (g : FunctionalGroup). g.number) gs ≡ [] → ⊥
   no_numbers [] some none = false_is_never_true some

@@ -11,18 +11,20 @@ use Rattle.x12_envelopes.specs.Outline.{outline_of}
 use Rattle.x12_envelopes.specs.Shape.{Interchange}
 use Rattle.x12_judge.specs.Agreement.{TradingAgreement}
 use Rattle.x12_judge.specs.Verdict.{judgement_of, InterchangeVerdict}
-use Rattle.x12_acks.specs.Accepted.{accepted_by_verdict}
+use Rattle.x12_acks.specs.Accepted.{accepted_by_verdict, noted_by_verdict}
 use Rattle.x12_acks.specs.Evidence.{Evidence as Piece, evidence_of}
 use Rattle.x12_acks.specs.Laws.{IsFirstNumbered, IsSubmittedAmong, Tells, has_group}
 use Rattle.x12_acks.specs.Reply.{reply_of}
 use Rattle.x12_acks.specs.Submission.{Submission, SubmittedGroup, submission_of}
-use Rattle.x12_acks.specs.Told.{is_among, told_by_place}
+use Rattle.x12_acks.specs.Told.{told_by_place}
 use Rattle.x12_profile.specs.Interchange.{Bytes, PlacedTransactionSet, evidence_by}
 use Rattle.x12_profile.specs.declared.edition.Edition.{Edition}
 use Rattle.x12_profile.specs.Laws.{IsReply}
 use Rattle.x12_profile.specs.Reading.{answers_in}
-use Rattle.x12_profile.specs.Result.{fate_of_result}
-use Rattle.x12_profile.specs.X12.{x12, result_at, sets_by_place, told_by_piece}
+use Rattle.x12_acks.specs.Evidence.{fate_of_result}
+use Rattle.x12_acks.specs.Told.{result_by_verdict}
+use Rattle.x12_profile.specs.Edition.{fate_read}
+use Rattle.x12_profile.specs.X12.{x12, result_at, sets_by_place, told_by_piece, pieces_read}
 use Rattle.x12_profile.proofs.Below.{Below}
 use Rattle.x12_profile.proofs.FieldLemmas as field
 use Rattle.x12_profile.proofs.PlaceLemmas.{all_told}
@@ -42,21 +44,21 @@ unfolding first_alone
 submitted_alone e = record { first = first_alone e; groups = none_before e.groups }
 
 -- bytes that tell something of one submission
-pub evidence_told : (ed : Edition) (hubs : List Party) (b x : Bytes) (h : Header) (o : Interchange) (es : List Piece) → header_of x ≡ Ok h → outline_of h.delims x ≡ Ok o → Tells hubs (submission_of h x o ∷ []) b es → x12.evidence ed hubs b x ≡ flat_map told_by_piece es
+pub evidence_told : (ed : Edition) (hubs : List Party) (b x : Bytes) (h : Header) (o : Interchange) (es : List Piece) → header_of x ≡ Ok h → outline_of h.delims x ≡ Ok o → Tells hubs (submission_of h x o ∷ []) b es → x12.evidence ed hubs b x ≡ flat_map told_by_piece (pieces_read ed es)
 evidence_told ed hubs b x h o es known there tells =
     field.evidence_is ed hubs b x
-    ∙ ap (λ ss. flat_map told_by_piece (evidence_of hubs (ss ++ []) (x12.sender b) (answers_in b))) (field.submission_is x h known o there)
-    ∙ ap₂ (λ from answers. flat_map told_by_piece (evidence_of hubs (submission_of h x o ∷ []) from answers)) (field.sender_is b tells.header tells.is_header) (field.answers_are b tells.header tells.is_header tells.outline tells.is_outline)
-    ∙ ap (flat_map told_by_piece) tells.told
+    ∙ ap (λ ss. flat_map told_by_piece (pieces_read ed (evidence_of hubs (ss ++ []) (x12.sender b) (answers_in b)))) (field.submission_is x h known o there)
+    ∙ ap₂ (λ from answers. flat_map told_by_piece (pieces_read ed (evidence_of hubs (submission_of h x o ∷ []) from answers))) (field.sender_is b tells.header tells.is_header) (field.answers_are b tells.header tells.is_header tells.outline tells.is_outline)
+    ∙ ap (λ told. flat_map told_by_piece (pieces_read ed told)) tells.told
 
 -- what is told by place
-by_place : (h : Header) (x : Bytes) (o : Interchange) (v : InterchangeVerdict) → flat_map told_by_piece (told_by_place (submission_of h x o) v) ≡ evidence_by (λ k. result_at k (accepted_by_verdict h.sender h.icn v)) (sets_by_place o)
+by_place : (ed : Edition) (h : Header) (x : Bytes) (o : Interchange) (v : InterchangeVerdict) → flat_map told_by_piece (pieces_read ed (told_by_place (submission_of h x o) v)) ≡ evidence_by ed (λ k. result_at k (noted_by_verdict h.sender h.icn v) (accepted_by_verdict h.sender h.icn v)) (sets_by_place o)
 unfolding told_by_place submission_of
-by_place h x o v = all_told (is_among (accepted_by_verdict h.sender h.icn v)) h x o
+by_place ed h x o v = all_told ed (result_by_verdict h.sender h.icn v) h x o
 
-by_profile : (ed : Edition) (me : Party) (a : List TradingAgreement) (x : Bytes) (h : Header) → header_of x ≡ Ok h → (sets : List PlacedTransactionSet) → evidence_by (x12.verdict ed me a x) sets ≡ evidence_by (λ k. result_at k (accepted_by_verdict h.sender h.icn (judgement_of me a h x).verdict)) sets
-by_profile ed me a x h known [] = refl
-by_profile ed me a x h known (s ∷ sets) = ap₂ (λ v es. record { place = s.place; fate = fate_of_result v } ∷ es) (field.verdict_is x h known ed me a s.place ∙ ap (λ j. result_at s.place (accepted_by_verdict h.sender h.icn j.verdict)) (field.is_first ed me a h x)) (by_profile ed me a x h known sets)
+by_profile : (read ed : Edition) (me : Party) (a : List TradingAgreement) (x : Bytes) (h : Header) → header_of x ≡ Ok h → (sets : List PlacedTransactionSet) → evidence_by read (x12.verdict ed me a x) sets ≡ evidence_by read (λ k. result_at k (noted_by_verdict h.sender h.icn (judgement_of me a h x).verdict) (accepted_by_verdict h.sender h.icn (judgement_of me a h x).verdict)) sets
+by_profile read ed me a x h known [] = refl
+by_profile read ed me a x h known (s ∷ sets) = ap₂ (λ v es. record { place = s.place; fate = fate_read read (fate_of_result v) } ∷ es) (field.verdict_is x h known ed me a s.place ∙ ap (λ j. result_at s.place (noted_by_verdict h.sender h.icn j.verdict) (accepted_by_verdict h.sender h.icn j.verdict)) (field.is_first ed me a h x)) (by_profile read ed me a x h known sets)
 
 module _ (g : Below) (me : Party) (a : List TradingAgreement) (x r : Bytes) (w : IsReply x12 me a x r) (s : submission.IsSubmitted x) (n : ℕ) (rising : IsTrue (is_rising n (x12.groups x))) (own : x12.receiver x ≡ me) where
   abbrev h : Header
@@ -81,15 +83,15 @@ module _ (g : Below) (me : Party) (a : List TradingAgreement) (x r : Bytes) (w :
       (subst (λ who. Tells hubs (e ∷ []) (reply_by who) (told_by_place e (judgement_of who a h x).verdict)) mine
       (g.tells.reply hubs (e ∷ []) a h x s.outline w.at w.book.interchange w.book.group (submission.of_orders x s n rising) (submitted_alone e) at.0 at.1))
 
-  pub tells_verdict : (ed : Edition) (hubs : List Party) → x12.evidence ed hubs r x ≡ evidence_by (x12.verdict w.edition me a x) (x12.sets x)
+  pub tells_verdict : (ed : Edition) (hubs : List Party) → x12.evidence ed hubs r x ≡ evidence_by ed (x12.verdict w.edition me a x) (x12.sets x)
   tells_verdict ed hubs =
       evidence_told ed hubs r x h s.outline (told_by_place e (judgement_of me a h x).verdict) s.is_header s.is_outline (tells_it hubs)
-      ∙ by_place h x s.outline (judgement_of me a h x).verdict
-      ∙ sym (by_profile w.edition me a x h s.is_header (sets_by_place s.outline))
-      ∙ ap (evidence_by (x12.verdict w.edition me a x)) (sym (field.sets_are x h s.is_header s.outline s.is_outline))
+      ∙ by_place ed h x s.outline (judgement_of me a h x).verdict
+      ∙ sym (by_profile ed w.edition me a x h s.is_header (sets_by_place s.outline))
+      ∙ ap (evidence_by ed (x12.verdict w.edition me a x)) (sym (field.sets_are x h s.is_header s.outline s.is_outline))
 
 -- the law
 pub tells : Below → (me : Party) (a : List TradingAgreement) (x r : Bytes) (w : IsReply x12 me a x r)
     → IsTrue (x12.is_submission x) → (n : ℕ) → IsTrue (is_rising n (x12.groups x)) → x12.receiver x ≡ me → (ed : Edition) (hubs : List Party)
-    → x12.evidence ed hubs r x ≡ evidence_by (x12.verdict w.edition me a x) (x12.sets x)
+    → x12.evidence ed hubs r x ≡ evidence_by ed (x12.verdict w.edition me a x) (x12.sets x)
 tells g me a x r w orders n rising own ed hubs = tells_verdict g me a x r w (submission.submitted x orders) n rising own ed hubs

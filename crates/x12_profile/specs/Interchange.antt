@@ -3,8 +3,10 @@
 use Rattle.x12_numbers.specs.Book.{Numbers}
 use Rattle.x12_numbers.specs.declared.book.TheConstants.{MAX_CONTROL_NUMBER}
 use Rattle.std.specs.Prelude.{ℕ, ◌+◌, List, Bool, ◌&&◌, ◌==◌, nat_le, if◌then◌else◌, map}
-use Rattle.x12_acks.specs.Evidence.{FinalFate}
-use Rattle.x12_profile.specs.Result.{SetResult, fate_of_result}
+use Rattle.x12_acks.specs.Evidence.{FinalFate, fate_of_result}
+use Rattle.x12_judge.specs.declared.verdict.SetResult.{SetResult}
+use Rattle.x12_profile.specs.Edition.{fate_read}
+use Rattle.x12_profile.specs.declared.edition.Edition.{Edition}
 
 -- an interchange as it is sent: the bytes from ISA through IEA's terminator
 abbrev pub Bytes : Type 0
@@ -33,11 +35,13 @@ pub record PlacedEvidence : Type 0 where
   pub place : PlaceOfSet
   pub fate : FinalFate
 
--- what a verdict lets be told of each set, in their order
+-- what a verdict lets be told of each set, in their order, to a sender who reads by an edition
 abbrev pub evidence_by :
-    (PlaceOfSet → SetResult) → List PlacedTransactionSet → List PlacedEvidence
-evidence_by verdict sets =
-    map (λ s. record { place = s.place; fate = fate_of_result (verdict s.place) }) sets
+    Edition → (PlaceOfSet → SetResult) → List PlacedTransactionSet → List PlacedEvidence
+evidence_by by verdict sets = map (λ s. record {
+  place = s.place;
+  fate = fate_read by (fate_of_result (verdict s.place));
+}) sets
 
 -- the segments between ST and SE of an order, each a list of its elements
 abbrev pub Order : Type 0

@@ -8,7 +8,8 @@ use Rattle.x12_judge.specs.Agreement.{TradingAgreement}
 use Rattle.x12_profile.specs.declared.edition.Edition.{Edition}
 use Rattle.x12_profile.specs.Interchange.{Bytes, PlaceOfSet, PlacedTransactionSet, PlacedEvidence, Book, is_place, evidence_by, is_within}
 use Rattle.x12_profile.specs.Profile.{Profile}
-use Rattle.x12_profile.specs.Result.{Rejects, takes}
+use Rattle.x12_judge.specs.declared.verdict.SetResult.TheVariants.{Rejected}
+use Rattle.x12_judge.specs.Set.{takes}
 
 -- r is the reply of me to b by some edition, which was due, at some moment and under numbers that may
 -- be written
@@ -85,7 +86,7 @@ pub record ReplyLaws (p : Profile) : Type 0 where
       (me : Party) (a : List TradingAgreement) (x r : Bytes) (w : IsReply p me a x r) →
       IsTrue (p.is_submission x) → (n : ℕ) → IsTrue (is_rising n (p.groups x)) →
       p.receiver x ≡ me → (by : Edition) (hubs : List Party) →
-      p.evidence by hubs r x ≡ evidence_by (p.verdict w.edition me a x) (p.sets x)
+      p.evidence by hubs r x ≡ evidence_by by (p.verdict w.edition me a x) (p.sets x)
   -- it says what the verdict says, at each place
   pub result :
       (me : Party) (a : List TradingAgreement) (b r : Bytes) (w : IsReply p me a b r)
@@ -120,7 +121,7 @@ pub record RefusalLaws (p : Profile) : Type 0 where
   pub tells :
       (me : Party) (x r : Bytes) → IsTa1Refusal p me x r → IsTrue (p.is_submission x) →
       (by : Edition) (hubs : List Party) → Contains hubs me →
-      p.evidence by hubs r x ≡ evidence_by (λ k. Rejects) (p.sets x)
+      p.evidence by hubs r x ≡ evidence_by by (λ k. Rejected) (p.sets x)
 
 pub record Laws (p : Profile) : Type 0 where
   pub submission : SubmissionLaws p

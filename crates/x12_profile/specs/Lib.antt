@@ -1,4 +1,5 @@
 pub mod Edition
+pub mod Marking
 pub mod Result
 pub mod Interchange
 pub mod Profile

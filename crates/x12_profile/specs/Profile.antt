@@ -8,7 +8,7 @@ use Rattle.x12_judge.specs.Agreement.{TradingAgreement}
 use Rattle.x12_acks.specs.Evidence.{Evidence as Piece}
 use Rattle.x12_profile.specs.declared.edition.Edition.{Edition}
 use Rattle.x12_profile.specs.Interchange.{Bytes, PlaceOfSet, PlacedTransactionSet, PlacedEvidence, Order, Book, Needs}
-use Rattle.x12_profile.specs.Result.{SetResult}
+use Rattle.x12_judge.specs.declared.verdict.SetResult.{SetResult}
 
 pub record Profile : Type 0 where
   -- whether ISA can be read; the rest says nothing where it can't

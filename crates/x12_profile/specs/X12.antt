@@ -15,14 +15,15 @@ use Rattle.x12_acks.specs.Reply.{reply_of, refusal_of, is_reply_due, takes_group
 use Rattle.x12_acks.specs.Answer.{Acknowledgment, unclear}
 use Rattle.x12_acks.specs.Submission.{Submission, submission_of}
 use Rattle.x12_acks.specs.Evidence.{Evidence as Piece, tells, unmatched, evidence_of}
-use Rattle.x12_acks.specs.Accepted.{AcceptedSet, accepted_by_verdict}
-use Rattle.x12_acks.specs.Place.{accepted_by_reply}
-use Rattle.x12_acks.specs.Told.{is_among}
+use Rattle.x12_acks.specs.Accepted.{AcceptedSet, accepted_by_verdict, noted_by_verdict}
+use Rattle.x12_acks.specs.Place.{accepted_by_reply, noted_by_reply}
+use Rattle.x12_acks.specs.Told.{result_among}
 use Rattle.x12_profile.specs.declared.edition.Edition.{Edition}
-use Rattle.x12_profile.specs.declared.edition.Edition.TheVariants.{First}
+use Rattle.x12_profile.specs.declared.edition.Edition.TheVariants.{First, Second}
+use Rattle.x12_profile.specs.Edition.{fate_read}
 use Rattle.x12_profile.specs.Interchange.{Bytes, PlaceOfSet, PlacedTransactionSet, PlacedEvidence, Book, Needs}
 use Rattle.x12_profile.specs.Profile.{Profile}
-use Rattle.x12_profile.specs.Result.{SetResult, result_if}
+use Rattle.x12_judge.specs.declared.verdict.SetResult.{SetResult}
 use Rattle.x12_profile.specs.Reading.{header_in, by_header, by_outline, by_both, nobody, answers_in}
 use Rattle.x12_profile.specs.Order.{are_orders, order_interchange}
 
@@ -69,21 +70,30 @@ is_refused (judged groups) = false
 -- what an interchange with this header deserves at this station by an edition
 abbrev pub judged_by :
     Edition → Party → List TradingAgreement → Header → Bytes → InterchangeJudgement
-judged_by First me agreements h b = judgement_of me agreements h b
+judged_by by me agreements h b = judgement_of me agreements h b
 
--- the transaction sets that a station accepts of an interchange with this header, by its verdict
+-- the transaction sets that a station accepts of an interchange with this header, by its verdict; and
+-- of these, those with errors noted
 abbrev pub accepted_of :
     Edition → Party → List TradingAgreement → Bytes → Header → List AcceptedSet
 accepted_of by me agreements b h =
     accepted_by_verdict h.sender h.icn (judged_by by me agreements h b).verdict
 
--- the transaction sets of an interchange that a reply to it accepts
+abbrev pub noted_of :
+    Edition → Party → List TradingAgreement → Bytes → Header → List AcceptedSet
+noted_of by me agreements b h =
+    noted_by_verdict h.sender h.icn (judged_by by me agreements h b).verdict
+
+-- the transaction sets of an interchange that a reply to it accepts; and of these, those with errors noted
 abbrev pub accepted_in : Bytes → Bytes → List AcceptedSet
 accepted_in b r = by_both [] (λ h x. accepted_by_reply h x (answers_in r)) b
 
--- accepted, if one of these stands at this place
-abbrev pub result_at : PlaceOfSet → List AcceptedSet → SetResult
-result_at k sets = result_if (is_among sets k.group k.set)
+abbrev pub noted_in : Bytes → Bytes → List AcceptedSet
+noted_in b r = by_both [] (λ h x. noted_by_reply h x (answers_in r)) b
+
+-- the result at a place, by which sets are accepted, and which of these with errors noted
+abbrev pub result_at : PlaceOfSet → List AcceptedSet → List AcceptedSet → SetResult
+result_at k noted accepted = result_among noted accepted k.group k.set
 
 -- a reply that takes no number, as none is due
 abbrev pub no_needs : Needs
@@ -114,6 +124,15 @@ told_by_piece (tells key fate) = record {
 } ∷ []
 told_by_piece unmatched = []
 
+-- evidence as it is read by an edition
+abbrev pub piece_before : Piece → Piece
+piece_before (tells key fate) = tells key (fate_read First fate)
+piece_before unmatched = unmatched
+
+abbrev pub pieces_read : Edition → List Piece → List Piece
+pieces_read First pieces = map piece_before pieces
+pieces_read Second pieces = pieces
+
 -- a set of a group of acknowledgments that isn't a 997
 abbrev pub is_unclear : Acknowledgment → Bool
 is_unclear unclear = true
@@ -127,7 +146,7 @@ sender_of b = by_header nobody (λ h. h.sender) b
 abbrev pub pieces_for : List Party → List Bytes → Bytes → List Piece
 pieces_for hubs xs b = evidence_of hubs (flat_map submission_in_bytes xs) (sender_of b) (answers_in b)
 
--- The profile, in the order of Profile.antt; its one edition is 004010's, in envelopes of control
+-- The profile, in the order of Profile.antt; both its editions are 004010's, in envelopes of control
 -- versions 00200 to 00401. Bytes without a header come from nobody and to nobody, are refused, and
 -- give empty lists, no numbers and no bytes.
 unfoldable pub x12 : Profile
@@ -141,14 +160,16 @@ x12 = record {
   is_submission = by_outline false is_order_outline;
   is_silent = by_outline false (λ x. reading_is_silent (Ok x));
   refuses = λ by me b. by_header true (λ h. is_refused (judged_by by me [] h b).verdict) b;
-  verdict = λ by me agreements b k. result_at k (by_header [] (accepted_of by me agreements b) b);
+  verdict = λ by me agreements b k.
+      result_at k (by_header [] (noted_of by me agreements b) b)
+      (by_header [] (accepted_of by me agreements b) b);
   needs = λ by me agreements b. by_header no_needs (needs_of by me agreements b) b;
   reply = λ by me agreements at book b.
       by_header [] (λ h. written (reply_under by me agreements at book b h)) b;
   refusal = λ note me at icn b. by_header [] (λ h. written (refusal_of note h me at icn)) b;
-  evidence = λ by hubs b x. flat_map told_by_piece (pieces_for hubs (x ∷ []) b);
-  result = λ b r k. result_at k (accepted_in b r);
-  pieces = λ by. pieces_for;
+  evidence = λ by hubs b x. flat_map told_by_piece (pieces_read by (pieces_for hubs (x ∷ []) b));
+  result = λ b r k. result_at k (noted_in b r) (accepted_in b r);
+  pieces = λ by hubs xs b. pieces_read by (pieces_for hubs xs b);
   unclear = λ b. count_by is_unclear (answers_in b);
   may_order = are_orders;
   orders = λ me to at book texts. written (order_interchange me to at book texts);

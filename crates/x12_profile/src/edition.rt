@@ -5,32 +5,51 @@ ghost use Rattle.x12_judge.specs.Agreement.{agreement_view};
 ghost use Rattle.x12_judge.specs.Bound.{IsReadOf, IsSmall};
 ghost use Rattle.x12_judge.specs.Verdict.{judgement_view};
 ghost use Rattle.x12_profile.specs.Edition.{edition_at};
+ghost use Rattle.x12_profile.specs.Marking.{marks_view};
 ghost use Rattle.x12_profile.specs.X12.{judged_by};
 
 use std::alloc::{AllocError, Global};
 use x12_envelopes::{Header, Party};
 use x12_judge::{Agreement, Judgement, Reading, judge_reading};
 
-/// An edition of the rules by which a station judges and reads an arrival. There is one so far.
+/// An edition of the rules by which a station judges and reads an arrival.
 #[derive(Clone, Copy)]
 pub enum Edition {
-    /// 004010, in envelopes of the control versions 00200 to 00401.
+    /// 004010, in envelopes of the control versions 00200 to 00401; a set that an acknowledgment lists as
+    /// accepted with errors noted is read as accepted.
     First,
+    /// The same, but it is read as noted.
+    Second,
+}
+
+/// Up to which numbers of a station's history arrivals are judged and read in an older way.
+#[derive(Clone, Copy)]
+pub struct Marks {
+    /// Up to this one a set with errors noted is read as accepted.
+    pub noted: u64,
 }
 
 impl Edition {
     /// The edition of what has this number, from 1, in a station's history.
-    pub fn at(number: u64) -> Edition
-        ensures { result ≡ edition_at number }
+    #[tactic(auto, unfolding(crate::specs::Edition::edition_at))]
+    pub fn at(marks: Marks, number: u64) -> Edition
+        ensures { result ≡ edition_at (marks_view marks) number }
     {
-        Edition::First
+        if number <= marks.noted {
+            return Edition::First;
+        }
+        Edition::Second
     }
 
     /// The edition of what comes next where this number is the last in a station's history.
-    pub fn after(last: u64) -> Edition
-        ensures { result ≡ edition_at (last + 1) }
+    #[tactic(auto, unfolding(crate::specs::Edition::edition_at))]
+    pub fn after(marks: Marks, last: u64) -> Edition
+        ensures { result ≡ edition_at (marks_view marks) (last + 1) }
     {
-        Edition::First
+        if last < marks.noted {
+            return Edition::First;
+        }
+        Edition::Second
     }
 
     /// What an interchange deserves at this station, under these agreements, by this edition: by
@@ -48,8 +67,6 @@ impl Edition {
             let ags = map agreement_view agreements.now in IfOk result (λ j.
             judgement_view j ≡ judged_by self me.now ags header.now bytes) }
     {
-        match self {
-            Edition::First => judge_reading(alloc, me, agreements, header, reading),
-        }
+        judge_reading(alloc, me, agreements, header, reading)
     }
 }

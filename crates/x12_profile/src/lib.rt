@@ -7,5 +7,5 @@ mod edition;
 mod laws;
 
 pub use countdown::{Countdown, CountedDown};
-pub use edition::Edition;
+pub use edition::{Edition, Marks};
 pub use laws::{orders_are_submitted, x12_meets_the_laws};

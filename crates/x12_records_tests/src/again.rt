@@ -91,7 +91,12 @@ fn answered<R: Records>(
 ) -> Option<(Vec<u8>, usize)> {
     let pairs = vec![in alloc; (*b"PO", *b"850")].ok()?;
     let partner = ALPHA;
-    beta.set_agreement(Agreement { partner, pairs }).ok()?;
+    beta.set_agreement(Agreement {
+        partner,
+        lenient: false,
+        pairs,
+    })
+    .ok()?;
     let reply = beta.arrive(FIRST, at).ok()?.reply?;
     Some((reply, beta.postings().ok()?.len()))
 }

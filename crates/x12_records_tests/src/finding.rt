@@ -41,7 +41,15 @@ fn key(sender: Party, icn: u32, group: u16, set: u16) -> SetKey {
 /// Agrees to take a partner's orders; whether that is done.
 fn agrees<R: Records>(alloc: Global, alpha: &mut Station<R>, partner: Party) -> Result<bool, Fail> {
     let pairs = vec![in alloc; (*b"PO", *b"850")]?;
-    Ok(alpha.set_agreement(Agreement { partner, pairs }).is_ok())
+    Ok(
+        alpha
+            .set_agreement(Agreement {
+                partner,
+                lenient: false,
+                pairs,
+            })
+            .is_ok(),
+    )
 }
 
 /// Whether ALPHA agrees with both, submits its order, and takes what both send, of which BETA's comes

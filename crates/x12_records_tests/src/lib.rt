@@ -14,6 +14,8 @@ mod hub;
 #[cfg(test)]
 mod hub_stops;
 #[cfg(test)]
+mod lenient;
+#[cfg(test)]
 mod row_numbers;
 #[cfg(test)]
 mod runs;

@@ -84,7 +84,13 @@ fn agrees<R: Records>(alloc: Global, alpha: &mut Station<R>, withdraws: bool) ->
             Err(_) => return false,
         }
     };
-    alpha.set_agreement(Agreement { partner, pairs }).is_ok()
+    alpha
+        .set_agreement(Agreement {
+            partner,
+            lenient: false,
+            pairs,
+        })
+        .is_ok()
 }
 
 /// The same, followed by the end of the station: the one that is opened over the records which it

@@ -7,7 +7,7 @@ use Rattle.std.specs.List.{join_with_byte}
 use Rattle.x12_envelopes.specs.declared.party.Party.{Party}
 use Rattle.x12_envelopes.specs.Byte.{zero_padded_number}
 use Rattle.x12_outbound.specs.declared.fate.Fate.{Fate}
-use Rattle.x12_outbound.specs.declared.fate.Fate.TheVariants.{Pending, Accepted, Rejected}
+use Rattle.x12_outbound.specs.declared.fate.Fate.TheVariants.{Pending, Accepted, Noted, Rejected}
 use Rattle.x12_report.specs.declared.audit.Audit.{Audit}
 use Rattle.x12_report.specs.Audit.{postings_are_bad}
 
@@ -19,6 +19,7 @@ party_field p = p.qualifier ++ codes "/" ++ p.id
 abbrev pub fate_field : Fate → List ℕ
 fate_field Pending = codes "pending "
 fate_field Accepted = codes "accepted"
+fate_field Noted = codes "noted   "
 fate_field Rejected = codes "rejected"
 
 -- how many postings there are, in four places from the right; a hyphen where the receiver is no

@@ -84,6 +84,7 @@ fn fate_word(fate: Fate) -> &'static str
     match fate {
         Fate::Pending => "pending ",
         Fate::Accepted => "accepted",
+        Fate::Noted => "noted   ",
         Fate::Rejected => "rejected",
     }
 }
@@ -94,7 +95,7 @@ fn suits(fate: Fate, count: u64) -> bool
 {
     match fate {
         Fate::Pending => count <= 1,
-        Fate::Accepted => count == 1,
+        Fate::Accepted | Fate::Noted => count == 1,
         Fate::Rejected => count == 0,
     }
 }
@@ -155,11 +156,11 @@ fn push_line(out: &mut Vec<u8>, audit: &Audit) -> Result<(), AllocError>
 /// - the interchange control number in nine digits, the group's place in two, the set's in three
 ///   (an outline has at most 32 groups and 400 sets; a greater number takes more room)
 /// - the receiver, like the sender
-/// - how the set fares at its sender, in eight places: `pending`, `accepted` or `rejected`
+/// - how the set fares at its sender, in eight places: `pending`, `accepted`, `noted` or `rejected`
 /// - how many of the receiver's postings have its key, in four places (more from 10,000 on), or `-`
 ///   where the receiver is no station
-/// - `ok` where it is accepted and posted once, rejected and not posted, or pending and posted at
-///   most once, each time byte for byte as submitted; `ext` where the receiver is no station;
+/// - `ok` where it is accepted or noted and posted once, rejected and not posted, or pending and
+///   posted at most once, each time byte for byte as submitted; `ext` where the receiver is no station;
 ///   `BAD` otherwise
 pub fn report(alloc: Global, audits: &[Audit]) -> Result<Vec<u8>, AllocError>
     ensures lines { IfOk result (λ bytes. bytes.items ≡ flat_map report_line audits.now) }

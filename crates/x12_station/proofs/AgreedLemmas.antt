@@ -73,23 +73,23 @@ none_of_others a (b ∷ old) = by (is_same_party b.partner a.partner) refl (none
     by true is rest = rest
     by false is rest = rw (turned a.partner b.partner, is) rest
 
-module _ (partner : Party) (old : List TradingAgreement) where
-  once_by : (pairs : List (List ℕ × List ℕ)) → IsDistinct same_partner old → IsDistinct same_partner (agreed (record { partner = partner; pairs = pairs }) old)
+module _ (partner : Party) (lenient : Bool) (old : List TradingAgreement) where
+  once_by : (pairs : List (List ℕ × List ℕ)) → IsDistinct same_partner old → IsDistinct same_partner (agreed (record { partner = partner; lenient = lenient; pairs = pairs }) old)
   once_by [] once = filter_distinct same_partner (λ a. not (is_same_party a.partner partner)) old once
   once_by (q ∷ qs) once =
-      let a : TradingAgreement = record { partner = partner; pairs = each_once (q ∷ qs) } in
+      let a : TradingAgreement = record { partner = partner; lenient = lenient; pairs = each_once (q ∷ qs) } in
       IsDistinct-push partners_alike (of_others partner old) a (filter_distinct same_partner (λ a. not (is_same_party a.partner partner)) old once) (none_of_others a old)
 
-  kept_by : (pairs : List (List ℕ × List ℕ)) → All IsKeptAgreement old → All IsKeptAgreement (agreed (record { partner = partner; pairs = pairs }) old)
+  kept_by : (pairs : List (List ℕ × List ℕ)) → All IsKeptAgreement old → All IsKeptAgreement (agreed (record { partner = partner; lenient = lenient; pairs = pairs }) old)
   kept_by [] kept = All-filter (λ a. not (is_same_party a.partner partner)) IsKeptAgreement old kept
   kept_by (q ∷ qs) kept =
-      All-push IsKeptAgreement (of_others partner old) (record { partner = partner; pairs = each_once (q ∷ qs) })
+      All-push IsKeptAgreement (of_others partner old) (record { partner = partner; lenient = lenient; pairs = each_once (q ∷ qs) })
       (All-filter (λ a. not (is_same_party a.partner partner)) IsKeptAgreement old kept)
       (record { pairs = λ none. cc; once = once_each (q ∷ qs) })
 
 pub agreed_once : (a : TradingAgreement) (old : List TradingAgreement) → IsDistinct (λ b c. is_same_party b.partner c.partner) old
     → IsDistinct (λ b c. is_same_party b.partner c.partner) (agreed a old)
-agreed_once a old once = once_by a.partner old a.pairs once
+agreed_once a old once = once_by a.partner a.lenient old a.pairs once
 
 pub agreed_kept : (a : TradingAgreement) (old : List TradingAgreement) → All IsKeptAgreement old → All IsKeptAgreement (agreed a old)
-agreed_kept a old kept = kept_by a.partner old a.pairs kept
+agreed_kept a old kept = kept_by a.partner a.lenient old a.pairs kept

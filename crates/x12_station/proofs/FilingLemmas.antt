@@ -1,5 +1,5 @@
 -- One commit of a new arrival: with the plan's targets the records stay a station's, memory keeps what is open, and the state is the step's.
-use Rattle.std.specs.Prelude.{◌≡◌, ℕ, ◌+◌, ◌-◌, ◌^◌, ◌≤◌, min, List, [], Bool, true, false, if◌then◌else◌, map, Option, None, Ok, IsTrue, refl, filter}
+use Rattle.std.specs.Prelude.{length, ◌≡◌, ℕ, ◌+◌, ◌-◌, ◌^◌, ◌≤◌, min, List, [], Bool, true, false, if◌then◌else◌, map, Option, None, Ok, IsTrue, refl, filter}
 use mathlib.Core.Path.{sym, ap, ap₂, subst, ◌∙◌}
 use native.Mathlib.Omega.{arith}
 use Rattle.x12_numbers.specs.Book.{Numbers}
@@ -35,7 +35,7 @@ use Rattle.x12_station.specs.StationStep.{filed_now}
 use Rattle.x12_station.specs.Stored.{Stored, open_entries, filed_in}
 use Rattle.x12_station.proofs.ArrivedLemmas.{edition_of, history_fates, items_now}
 use Rattle.x12_station.proofs.DurableFiledLemmas.{durable_filed, entries_filed_are, filed_with, items_then}
-use Rattle.x12_station.proofs.FateLemmas.{brought}
+use Rattle.x12_station.proofs.FateLemmas.{brought, is_newest}
 use Rattle.x12_station.proofs.HearingLemmas.{same_unclear}
 use Rattle.x12_station.proofs.HeldLemmas.{left_open, sends_still}
 use Rattle.x12_station.proofs.PieceLemmas.{pieces_told, targets_told, findings_told}
@@ -51,18 +51,18 @@ module _ (v : OutboundLedger) (counts : Counts) (s : Stored) (d : IsHistoryOf v.
   pub evidence_brought : evidence_in p.pieces ≡ brought (edition_of s) v.me v.hubs items b
   evidence_brought =
       pieces_told v is_heard.closed s d near_are is_heard.me h.sender (heard (judged_by (edition_of s) v.me s.agreements h b).verdict b) is_heard.found p.pieces is_heard.evidence is_heard.pieces
-      ∙ sym (brought_is (edition_of s) v.me s.agreements b h known v.hubs items)
+      ∙ sym (brought_is (edition_of s) v.me s.agreements b h known (is_newest (length (items_of s))) v.hubs items)
 
   -- and its targets are what the history settles
   pub targets_brought : targets_of p.pieces ≡ targets_by (history_fates v.me v.hubs s d) (brought (edition_of s) v.me v.hubs items b)
   targets_brought =
       targets_told v is_heard.closed s d near_are is_heard.me h.sender (heard (judged_by (edition_of s) v.me s.agreements h b).verdict b) is_heard.found p.pieces is_heard.evidence is_heard.pieces
-      ∙ ap (targets_by (history_fates v.me v.hubs s d)) (sym (brought_is (edition_of s) v.me s.agreements b h known v.hubs items))
+      ∙ ap (targets_by (history_fates v.me v.hubs s d)) (sym (brought_is (edition_of s) v.me s.agreements b h known (is_newest (length (items_of s))) v.hubs items))
 
   findings_brought : findings_in p.pieces ≡ findings (own_fates x12 v.me v.hubs items) (brought (edition_of s) v.me v.hubs items b)
   findings_brought =
       findings_told v is_heard.closed s d near_are is_heard.me h.sender (heard (judged_by (edition_of s) v.me s.agreements h b).verdict b) is_heard.found p.pieces is_heard.evidence is_heard.pieces
-      ∙ ap (findings (own_fates x12 v.me v.hubs items)) (sym (brought_is (edition_of s) v.me s.agreements b h known v.hubs items))
+      ∙ ap (findings (own_fates x12 v.me v.hubs items)) (sym (brought_is (edition_of s) v.me s.agreements b h known (is_newest (length (items_of s))) v.hubs items))
 
   unclear_read : unclear_answers (answers_in b) ≡ x12.unclear b
   unfolding unclear_answers x12

@@ -12,7 +12,7 @@ use Rattle.std.proofs.Common.{eqb-true}
 use Rattle.x12_acks.proofs.FindLemmas.{none_passes, clash}
 use Rattle.x12_numbers.proofs.Shelf.{found_passes, pairs_from_map, all_from_contains, map_twice, list_any-map, none_in_nil, contains_cons, contains_head, contains_tail, contains_mapped, eq_itself, contains_in_filter}
 use Rattle.x12_outbound.specs.declared.fate.Fate.{Fate}
-use Rattle.x12_outbound.specs.declared.fate.Fate.TheVariants.{Pending, Accepted, Rejected}
+use Rattle.x12_outbound.specs.declared.fate.Fate.TheVariants.{Pending, Accepted, Noted, Rejected}
 use Rattle.x12_outbound.specs.declared.schedule.Schedule.{Schedule}
 use Rattle.x12_outbound.specs.Entry.{SetRow, InterchangeRow, submission_of_entry, row_is_open, set_row_at}
 use Rattle.x12_outbound.specs.Fate.{is_pending}
@@ -85,6 +85,7 @@ any_holds p (y ∷ ys) x at is = elim (contains_cons x y ys at) [ inl same ↦ l
 pending_before : (f g : Fate) → is_pending (fate_then f g) ≡ true → is_pending f ≡ true
 pending_before Pending g is = refl
 pending_before Accepted g is = is
+pending_before Noted g is = is
 pending_before Rejected g is = is
 
 module _ (v w : OutboundLedger) (s : Stored) (d : IsHistoryOf v.me v.hubs s) (near_are : map (λ r. r.interchange) v.rows ≡ open_entries s) (b : Bytes) (r : Option Bytes)

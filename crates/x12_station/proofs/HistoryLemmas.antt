@@ -9,10 +9,10 @@ use Rattle.std.proofs.lemmas.Bool.Decides.{eqb_tells}
 use Rattle.x12_envelopes.specs.declared.party.Party.{Party}
 use Rattle.x12_profile.specs.Interchange.{Bytes, PlaceOfSet, PlacedTransactionSet, PlacedEvidence, is_place}
 use Rattle.x12_profile.specs.Profile.{Profile}
-use Rattle.x12_profile.specs.Result.{takes}
+use Rattle.x12_judge.specs.Set.{takes}
 use Rattle.x12_profile.specs.declared.edition.Edition.{Edition}
 use Rattle.x12_profile.specs.declared.edition.Edition.TheVariants.{First}
-use Rattle.x12_acks.specs.Evidence.{FinalFate, accepted, rejected}
+use Rattle.x12_acks.specs.Evidence.{FinalFate, accepted, noted, rejected}
 use Rattle.x12_outbound.specs.Fate.{ended}
 use Rattle.x12_station.specs.History.{posting_of, Item, Submitted, Came, KeptArrival, Posting, filed, HasCame, submissions, arrivals, items_after, first_told, told, told_in, posted_by, postings, posted_under}
 use Rattle.x12_station.proofs.ListLemmas.{same_way, none_way, in_either, contains_flat_map, flat_map_contains}
@@ -132,13 +132,19 @@ place_is a b e =
 -- final fates differ as they end
 pub ended_apart : (a b : FinalFate) → ended a ≡ ended b → a ≡ b
 ended_apart accepted accepted e = refl
+ended_apart accepted noted e = absurd cc
 ended_apart accepted rejected e = absurd cc
+ended_apart noted accepted e = absurd cc
+ended_apart noted noted e = refl
+ended_apart noted rejected e = absurd cc
 ended_apart rejected accepted e = absurd cc
+ended_apart rejected noted e = absurd cc
 ended_apart rejected rejected e = refl
 
 -- the fate that a list of evidence gives, where it is final: of some piece for this place
 pub told_final_by : (k : PlaceOfSet) (es : List PlacedEvidence) (final : FinalFate) → first_told k es ≡ ended final → (e : PlacedEvidence) × Contains es e × (e.place ≡ k) × (e.fate ≡ final)
 told_final_by k [] accepted h = absurd (cc)
+told_final_by k [] noted h = absurd (cc)
 told_final_by k [] rejected h = absurd (cc)
 told_final_by k (e ∷ es) final h = by (is_place k e.place) refl h (told_final_by k es final)
   where
@@ -154,6 +160,7 @@ told_final k (f ∷ es) e h place = by (is_place k f.place) refl f.fate (contain
   where
     by : (t : Bool) → is_place k f.place ≡ t → (a : FinalFate) → ((f ≡ e) ⊎ Contains es e) → (Contains es e → first_told k es ≢ Pending) → (if t then ended a else first_told k es) ≢ Pending
     by true is accepted at later = λ z. cc
+    by true is noted at later = λ z. cc
     by true is rejected at later = λ z. cc
     by false is a (inl same) later = let yes' : is_place k f.place ≡ true = rw (same, place) (is_place_itself k) in absurd (differ (is_place k f.place) yes' is)
       where

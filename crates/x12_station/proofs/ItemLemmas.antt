@@ -21,7 +21,7 @@ use Rattle.x12_outbound.specs.Entry.{InterchangeRow}
 use Rattle.x12_inbound.specs.Arrival.{Filing}
 use Rattle.x12_inbound.specs.Order.{interchange}
 use Rattle.x12_inbound.specs.Register.{found_in}
-use Rattle.x12_profile.specs.Edition.{edition_at}
+use Rattle.x12_profile.specs.Edition.{edition_at, no_marks}
 use Rattle.x12_profile.specs.X12.{x12}
 use Rattle.x12_station.specs.Durable.{IsFiledRightly, item_at, item_of_arrival, items_of}
 use Rattle.x12_station.specs.History.{Item, Submitted, Came, KeptArrival, submissions, arrivals, filed}
@@ -254,7 +254,7 @@ items_submitted s numbered book e =
 
 -- an arrival adds its bytes, and the reply that is kept
 pub items_filed : (s : Stored) → AreNumbered s → (book : Numbers) (k : Filing) (settled : List (TransactionSetKey × Fate))
-    → items_of (stored_after (record { book = book; seq = s.seq + 1; change = Files k settled }) s) ≡ items_of s ++ Came (edition_at (s.seq + 1)) k.filed.bytes k.filed.reply ∷ []
+    → items_of (stored_after (record { book = book; seq = s.seq + 1; change = Files k settled }) s) ≡ items_of s ++ Came (edition_at no_marks (s.seq + 1)) k.filed.bytes k.filed.reply ∷ []
 items_filed s numbered book k settled =
     let row : StoredArrival = record { seq = s.seq + 1; filed = k.filed } in
     let t = stored_after (record { book = book; seq = s.seq + 1; change = Files k settled }) s in

@@ -18,12 +18,12 @@ use Rattle.x12_judge.specs.Group.{FunctionalGroupVerdict, verdict_of_group, verd
 use Rattle.x12_judge.specs.Interchange.{note_of_interchange}
 use Rattle.x12_judge.specs.Set.{TransactionSetVerdict, set_is_accepted, verdict_of_set}
 use Rattle.x12_judge.specs.Verdict.{InterchangeVerdict, verdict_by, verdicts_of_groups, judgement_of, group_is_acknowledgment}
-use Rattle.x12_acks.specs.Accepted.{AcceptedSet, judged_set, accepted_in_group, accepted_by_verdict}
-use Rattle.x12_acks.specs.Told.{is_among}
+use Rattle.x12_acks.specs.Accepted.{AcceptedSet, judged_set, accepted_in_group, accepted_by_verdict, noted_by_verdict, sets_by_verdict}
+use Rattle.x12_acks.specs.Told.{is_among, result_if}
 use Rattle.x12_profile.specs.Interchange.{Bytes, PlacedTransactionSet}
 use Rattle.x12_profile.specs.Laws.{IsReply, Laws}
 use Rattle.x12_profile.specs.declared.edition.Edition.{Edition}
-use Rattle.x12_profile.specs.Result.{takes, result_if}
+use Rattle.x12_judge.specs.Set.{takes}
 use Rattle.x12_profile.specs.X12.{x12, judged_by, result_at, sets_of_group}
 use Rattle.x12_profile.proofs.FieldLemmas as field
 use Rattle.x12_station.specs.History.{Came, posted_by, posting_of}
@@ -179,9 +179,10 @@ same_filter f g alike [] = refl
 same_filter f g alike (s ∷ sets) = ap₂ (λ (t : Bool) (l : List PlacedTransactionSet). cond t (s ∷ l) l) (alike s) (same_filter f g alike sets)
 
 -- what is accepted is taken
-takes_if : (t : Bool) → takes (result_if t) ≡ t
-takes_if true = refl
-takes_if false = refl
+takes_if : (n t : Bool) → takes (result_if n t) ≡ t
+takes_if true true = refl
+takes_if false true = refl
+takes_if n false = refl
 
 module _ (me : Party) (a : List TradingAgreement) (b : Bytes) (h : Header) (known : header_of b ≡ Ok h) where
   abbrev pub verdict_here : InterchangeVerdict
@@ -192,14 +193,14 @@ module _ (me : Party) (a : List TradingAgreement) (b : Bytes) (h : Header) (know
   AreAccepted sets v = map (posting_of x12 b) (passing (is_among (accepted_by_verdict h.sender h.icn v)) sets) ≡ accepted_by_verdict h.sender h.icn v
 
   of_groups : (note : Option ℕ) (gs : List FunctionalGroup) → AreAccepted (flat_map sets_of_group (enumerate_from 1 gs)) (verdict_by note (map (judged_at h.sender h.icn b (field.sender_is b h known) (field.number_is b h known) h a) (filter (λ place. not (group_is_acknowledgment place.1)) (enumerate_from 1 gs))))
-  unfolding accepted_by_verdict
+  unfolding sets_by_verdict
   of_groups (Some note) gs = none_at_all (posting_of x12 b) (flat_map sets_of_group (enumerate_from 1 gs))
   of_groups None gs =
       groups_posted h.sender h.icn b (field.sender_is b h known) (field.number_is b h known) h a
       (is_among (accepted_from h.sender h.icn b (field.sender_is b h known) (field.number_is b h known) h a 1 gs)) 1 gs (λ i j le. refl)
 
   no_groups : (note : Option ℕ) → AreAccepted [] (verdict_by note [])
-  unfolding accepted_by_verdict
+  unfolding sets_by_verdict
   no_groups (Some note) = refl
   no_groups None = refl
 
@@ -215,8 +216,8 @@ module _ (me : Party) (a : List TradingAgreement) (b : Bytes) (h : Header) (know
   posted_so : Laws x12 → (r : Bytes) → IsReply x12 me a b r → map (posting_of x12 b) (filter (λ s. takes (x12.result b r s.place)) (x12.sets b)) ≡ accepted_by_verdict h.sender h.icn verdict_here
   posted_so laws r reply =
       ap (map (posting_of x12 b)) (same_filter (λ s. takes (x12.result b r s.place)) (λ s. is_among (accepted_by_verdict h.sender h.icn verdict_here) s.place.group s.place.set)
-      (λ s. ap takes (laws.reply.result me a b r reply s.place ∙ field.verdict_is b h known reply.edition me a s.place ∙ ap (λ j. result_at s.place (accepted_by_verdict h.sender h.icn j.verdict)) (field.is_first reply.edition me a h b))
-      ∙ takes_if (is_among (accepted_by_verdict h.sender h.icn verdict_here) s.place.group s.place.set)) (x12.sets b))
+      (λ s. ap takes (laws.reply.result me a b r reply s.place ∙ field.verdict_is b h known reply.edition me a s.place ∙ ap (λ j. result_at s.place (noted_by_verdict h.sender h.icn j.verdict) (accepted_by_verdict h.sender h.icn j.verdict)) (field.is_first reply.edition me a h b))
+      ∙ takes_if (is_among (noted_by_verdict h.sender h.icn verdict_here) s.place.group s.place.set) (is_among (accepted_by_verdict h.sender h.icn verdict_here) s.place.group s.place.set)) (x12.sets b))
       ∙ verdict_posts
 
   pub reply_posts : (ed : Edition) → Laws x12 → (r : Bytes) → IsReply x12 me a b r → posted_by x12 (Came ed b (Some r)) ≡ accepted_by_verdict h.sender h.icn (judged_by ed me a h b).verdict

@@ -3,12 +3,12 @@ use Rattle.std.specs.Prelude.{◌≡◌, List, [], ◌∷◌, Bool, true, false,
 use Rattle.std.specs.List.{AllByRecursion, cons_option}
 use mathlib.Core.Path.{sym, ap, ap₂, subst, ◌∙◌}
 use Rattle.x12_envelopes.specs.declared.party.Party.{Party}
-use Rattle.x12_acks.specs.Evidence.{Evidence, tells, unmatched, FinalFate, accepted, rejected}
+use Rattle.x12_acks.specs.Evidence.{Evidence, tells, unmatched, FinalFate, accepted, noted, rejected}
 use Rattle.x12_acks.specs.Key.{is_same_key}
 use Rattle.x12_acks.specs.Submission.{TransactionSetKey}
 use Rattle.x12_outbound.specs.Piece.{Finding, Settles, Repeats, Conflicts, Unmatched, PlannedPiece}
 use Rattle.x12_outbound.specs.declared.fate.Fate.{Fate}
-use Rattle.x12_outbound.specs.declared.fate.Fate.TheVariants.{Pending, Accepted, Rejected}
+use Rattle.x12_outbound.specs.declared.fate.Fate.TheVariants.{Pending, Accepted, Noted, Rejected}
 use Rattle.x12_outbound.specs.Fate.{ended}
 use Rattle.x12_outbound.specs.FirstEvidence.{first_about, fate_by_first}
 use Rattle.x12_outbound.specs.Matching.{stated}
@@ -98,6 +98,7 @@ module _ (me : Party) where
         where
           test : (b : Bool) (fate : FinalFate) → (if b then Some (ended fate) else fates k) ≡ Some Pending → k.sender ≡ me
           test true accepted is = absurd (let no : ⊥ = cc in no)
+          test true noted is = absurd (let no : ⊥ = cc in no)
           test true rejected is = absurd (let no : ⊥ = cc in no)
           test false fate is = ours k is
       by Repeats is = ours k is
@@ -116,6 +117,7 @@ module _ (me : Party) where
     where
       final : (fate : FinalFate) → fate_then (ended fate) (as_told (first_about (key_of_row t) es)) ≡ ended fate
       final accepted = refl
+      final noted = refl
       final rejected = refl
   settled_row es key fate t false row same pending = rw (row, same) refl
 
@@ -127,6 +129,7 @@ module _ (me : Party) where
       by : (f : Fate) → t.fate ≡ f → fate_then t.fate (as_told (first_about (key_of_row t) es)) ≡ fate_then t.fate (ended fate)
       by Pending is = absurd (final refl is)
       by Accepted is = rw is refl
+      by Noted is = rw is refl
       by Rejected is = rw is refl
   kept_row es key fate t false same final = rw same refl
 
@@ -144,6 +147,7 @@ module _ (me : Party) where
       keeps : (f : Fate) → fate_then f Pending ≡ f
       keeps Pending = refl
       keeps Accepted = refl
+      keeps Noted = refl
       keeps Rejected = refl
 
       none : (ts : List StoredSet) → ts ≡ map (row_told []) ts
@@ -157,6 +161,7 @@ module _ (me : Party) where
         where
           test : (b : Bool) (fate : FinalFate) → (if b then Some (ended fate) else fates k) ≡ Some Pending → k.sender ≡ me
           test true accepted is = absurd (let no : ⊥ = cc in no)
+          test true noted is = absurd (let no : ⊥ = cc in no)
           test true rejected is = absurd (let no : ⊥ = cc in no)
           test false fate is = ours k is
 
@@ -181,8 +186,13 @@ module _ (me : Party) where
           (λ t at. settled_row es key fate t (is_row_of key t) refl (sym (row_is key t (ours key is))) (λ row. same_fate fates key t Pending (fare t at) is (sym (row_is key t (ours key is)) ∙ row))))
       by None is fate same changed = rw is (same ∙ stay fate (λ pending. let no : ⊥ = cc in no))
       by (Some Accepted) is accepted same changed = rw is (same ∙ stay accepted (λ pending. let no : ⊥ = cc in no))
+      by (Some Accepted) is noted same changed = rw is (same ∙ stay noted (λ pending. let no : ⊥ = cc in no))
+      by (Some Noted) is accepted same changed = rw is (same ∙ stay accepted (λ pending. let no : ⊥ = cc in no))
+      by (Some Noted) is noted same changed = rw is (same ∙ stay noted (λ pending. let no : ⊥ = cc in no))
       by (Some Accepted) is rejected same changed = rw is (same ∙ stay rejected (λ pending. let no : ⊥ = cc in no))
+      by (Some Noted) is rejected same changed = rw is (same ∙ stay rejected (λ pending. let no : ⊥ = cc in no))
       by (Some Rejected) is accepted same changed = rw is (same ∙ stay accepted (λ pending. let no : ⊥ = cc in no))
+      by (Some Rejected) is noted same changed = rw is (same ∙ stay noted (λ pending. let no : ⊥ = cc in no))
       by (Some Rejected) is rejected same changed = rw is (same ∙ stay rejected (λ pending. let no : ⊥ = cc in no))
 
 -- the fate that a set is told first is the one that the evidence settles

@@ -11,7 +11,7 @@ use Rattle.x12_acks.specs.Submission.{Submission, SubmittedGroup, SubmittedSet}
 use Rattle.x12_inbound.specs.Filing.{FiledInterchange}
 use Rattle.x12_outbound.specs.Entry.{InterchangeRow, GroupRow, SetRow}
 use Rattle.x12_profile.specs.declared.edition.Edition.{Edition}
-use Rattle.x12_profile.specs.Edition.{edition_at}
+use Rattle.x12_profile.specs.Edition.{edition_at, no_marks}
 use Rattle.x12_profile.specs.Interchange.{Bytes}
 use Rattle.x12_profile.specs.X12.{x12, submission_in_bytes}
 use Rattle.x12_station.specs.History.{Item, Submitted, Came, submissions, postings, fate_in}
@@ -19,7 +19,7 @@ use Rattle.x12_station.specs.Stored.{Stored, StoredArrival, IsSound, origin_of, 
 
 -- an arrival of this number, whose edition the number gives
 abbrev pub item_of_arrival : ℕ → StoredArrival → Item
-item_of_arrival n r = Came (edition_at n) r.filed.bytes r.filed.reply
+item_of_arrival n r = Came (edition_at no_marks n) r.filed.bytes r.filed.reply
 
 -- the submission or the first arrival of this number
 abbrev pub item_at : Stored → ℕ → Option Item
@@ -85,7 +85,7 @@ pub record WasAnswered (by : Edition) (me : Party) (book : Numbers) (f : FiledIn
 
 -- there were such agreements, such a moment and such numbers, by the edition of its number
 abbrev pub IsAnsweredRightly : Party → Numbers → StoredArrival → Type 0
-IsAnsweredRightly me book r = ∥ WasAnswered (edition_at r.seq) me book r.filed ∥₁
+IsAnsweredRightly me book r = ∥ WasAnswered (edition_at no_marks r.seq) me book r.filed ∥₁
 
 -- a station may have submitted these bytes
 pub record IsOwnSubmission (me : Party) (x : Bytes) : Type 0 where

@@ -8,7 +8,7 @@ use Rattle.x12_acks.specs.Accepted.{AcceptedSet}
 use Rattle.x12_judge.specs.Agreement.{is_same_party}
 use Rattle.x12_profile.specs.Interchange.{Bytes, PlaceOfSet, PlacedEvidence, is_place, PlacedTransactionSet}
 use Rattle.x12_profile.specs.Profile.{Profile}
-use Rattle.x12_profile.specs.Result.{takes}
+use Rattle.x12_judge.specs.Set.{takes}
 use Rattle.x12_profile.specs.declared.edition.Edition.{Edition}
 use Rattle.x12_outbound.specs.Fate.{ended}
 use Rattle.x12_outbound.specs.declared.fate.Fate.TheVariants.{Pending}

@@ -14,7 +14,7 @@ use Rattle.x12_station.specs.declared.records.Item.{Item as CodeItem}
 use Rattle.x12_station.specs.declared.records.Item.TheVariants as kept
 use Rattle.x12_station.specs.declared.records.Loaded.{Loaded as CodeLoaded}
 use Rattle.x12_station.specs.declared.records.Owner.{Owner}
-use Rattle.x12_profile.specs.Edition.{edition_at}
+use Rattle.x12_profile.specs.Edition.{edition_at, no_marks}
 use Rattle.x12_station.specs.History.{Item, Submitted, Came}
 use Rattle.x12_station.specs.Stored.{Origin, Stored, open_entries, HasSets, IsNumberedBy, IsKeptAgreement}
 use Rattle.x12_station.specs.Plan.{Change, Submits, Files, Agrees, TakesNumbers}
@@ -37,7 +37,7 @@ owner_view o = record {
 abbrev pub history_item : ℕ → CodeItem → Item
 history_item n (kept.Submitted bytes) = Submitted bytes.items
 history_item n (kept.Came filed) =
-    Came (edition_at n) filed.bytes.items (reply_bytes filed.reply)
+    Came (edition_at no_marks n) filed.bytes.items (reply_bytes filed.reply)
 
 -- what a station loads: its numbers, its agreements, and its open submissions
 pub record Loaded : Type 0 where

@@ -5,7 +5,7 @@ use Rattle.std.specs.Prelude.{filter, bytes_eq}
 use Rattle.x12_envelopes.specs.declared.party.Party.{Party}
 use Rattle.x12_judge.specs.Agreement.{is_same_party, TradingAgreement}
 use Rattle.x12_profile.specs.declared.edition.Edition.{Edition}
-use Rattle.x12_profile.specs.Edition.{edition_at}
+use Rattle.x12_profile.specs.Edition.{edition_at, no_marks}
 use Rattle.x12_profile.specs.Interchange.{Book}
 use Rattle.x12_outbound.specs.declared.evidence.Counts.{Counts}
 use Rattle.x12_outbound.specs.Counts.{only_unclear}
@@ -28,7 +28,7 @@ pub record Station : Type 0 where
 
 -- the edition of what comes next
 abbrev pub edition_next : Station → Edition
-edition_next s = edition_at (length s.items + 1)
+edition_next s = edition_at no_marks (length s.items + 1)
 
 -- a station of this party with empty records
 abbrev pub new_station : Party → List Party → Station
@@ -64,4 +64,5 @@ abbrev pub agreed : TradingAgreement → List TradingAgreement → List TradingA
 agreed a old =
     if is_empty a.pairs
     then of_others a.partner old
-    else of_others a.partner old ++ record { partner = a.partner; pairs = each_once a.pairs } ∷ []
+    else of_others a.partner old
+    ++ record { partner = a.partner; lenient = a.lenient; pairs = each_once a.pairs } ∷ []

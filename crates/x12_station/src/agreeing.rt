@@ -45,11 +45,13 @@ fn first_ones(alloc: Global, pairs: &[Pair]) -> Result<Vec<Pair>, AllocError>
 pub(crate) fn each_pair_once(alloc: Global, agreement: &Agreement) -> Result<Agreement, AllocError>
     ensures { IfOk result (λ a. agreement_view a ≡ record {
       partner = (agreement_view agreement.now).partner;
+      lenient = (agreement_view agreement.now).lenient;
       pairs = each_once (agreement_view agreement.now).pairs;
     }) }
 {
     Ok(Agreement {
         partner: agreement.partner,
+        lenient: agreement.lenient,
         pairs: first_ones(alloc, &agreement.pairs)?,
     })
 }

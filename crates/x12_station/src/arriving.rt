@@ -12,7 +12,7 @@ ghost use Rattle.x12_judge.specs.Agreement.{agreement_view};
 ghost use Rattle.x12_judge.specs.Interchange.{reading_is_silent};
 ghost use Rattle.x12_outbound.specs.Counts.{only_unclear, AreCounts};
 ghost use Rattle.x12_outbound.specs.Plan.{IsPlan};
-ghost use Rattle.x12_profile.specs.Edition.{edition_at};
+ghost use Rattle.x12_profile.specs.Edition.{edition_at, no_marks};
 ghost use Rattle.x12_profile.specs.Interchange.{book_for};
 ghost use Rattle.x12_profile.specs.X12.{judged_by, needs_of, x12};
 ghost use Rattle.x12_station.specs.Arriving.{AreReadAs, TakesNew, TakesOther, counts_told};
@@ -45,7 +45,7 @@ use x12_envelopes::{Header, Moment, Outline};
 use x12_inbound::{Arrived, what_is_posted_was_accepted};
 use x12_judge::read_interchange;
 use x12_outbound::{Counts, Settling};
-use x12_profile::{Edition, x12_meets_the_laws};
+use x12_profile::{Edition, Marks, x12_meets_the_laws};
 
 /// What an arrival was, by what is filed under its sender (ISA05, ISA06) and number (ISA13).
 #[derive(Clone, Copy, Debug, PartialEq, Eq)]
@@ -173,22 +173,22 @@ fn weighed<R: Records>(
     requires read { AreReadAs bytes.now header.now (arrived_view arrived) }
     ensures asked { WereAsked R.Records records.old records.new }
     ensures weighed { IfOk result (λ w. IsPlan memory.now.ledger.holds w.1.pieces
-        × IsDraft (edition_at (memory.now.seq + 1)) memory.now.me
+        × IsDraft (edition_at no_marks (memory.now.seq + 1)) memory.now.me
         (map agreement_view memory.now.agreements.items) at.now
         memory.now.book header.now bytes.now w.0) }
     ensures heard { let ags = map agreement_view memory.now.agreements.items in
         IsTrue (R.answers records.new) → IfOk result (λ w. IsHeard memory.now.ledger.holds
         (R.content records.old) header.now.sender (heard
-        (judged_by (edition_at (memory.now.seq + 1)) memory.now.me ags header.now bytes.now).verdict
+        (judged_by (edition_at no_marks (memory.now.seq + 1)) memory.now.me ags header.now bytes.now).verdict
         bytes.now) w.1) }
 
     ensures fault { IfErr result (IsRowOrWant (exhausted (is_spent memory.now.book (needs_of
-        (edition_at (memory.now.seq + 1)) memory.now.me (map agreement_view memory.now.agreements.items) bytes.now header.now)))) }
+        (edition_at no_marks (memory.now.seq + 1)) memory.now.me (map agreement_view memory.now.agreements.items) bytes.now header.now)))) }
     ensures device { CountsFailures result (λ f. f ≡ Store)
         (R.failed records.old) (R.failed records.new) }
 {
     let (alloc, me) = (memory.alloc, &memory.me);
-    let edition = Edition::after(memory.seq);
+    let edition = Edition::after(Marks { noted: 0 }, memory.seq);
     let reading = read_interchange(alloc, bytes, header)?;
     let judgement = edition.judge(alloc, me, &memory.agreements, header, &reading)?;
     let answers = answers_heard(alloc, header, &reading, &judgement)?;
@@ -239,7 +239,7 @@ pub(crate) fn answer_new<R: Records>(
         records.old records.new }
 
     ensures fault { let last = nat_le (2 ^ 63 - 1) memory.old.seq in
-        let by = edition_at (memory.old.seq + 1) in
+        let by = edition_at no_marks (memory.old.seq + 1) in
         IfErr result (IsRowOrWant (exhausted (is_spent memory.old.book (needs_of by memory.old.me
         (map agreement_view memory.old.agreements.items) bytes.now header.now) || last))) }
     ensures unchanged { IsTrue (R.answers records.new) → OnErr result

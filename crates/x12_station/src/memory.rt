@@ -166,6 +166,7 @@ impl MemoryRecords {
             let pairs = Vec::from_slice(self.alloc, &agreement.pairs)?;
             agreements.push(Agreement {
                 partner: agreement.partner,
+                lenient: agreement.lenient,
                 pairs,
             })?;
         }

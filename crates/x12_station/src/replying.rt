@@ -7,7 +7,7 @@ ghost use Rattle.x12_judge.specs.Verdict.{judgement_view};
 ghost use Rattle.x12_inbound.specs.Arrival.{arrival, arrived_view};
 ghost use Rattle.x12_inbound.specs.Filing.{reply_bytes};
 ghost use Rattle.x12_acks.specs.Reply.{due_reply};
-ghost use Rattle.x12_profile.specs.Edition.{edition_at};
+ghost use Rattle.x12_profile.specs.Edition.{edition_at, no_marks};
 ghost use Rattle.x12_profile.specs.X12.{judged_by, needs_of};
 ghost use Rattle.x12_profile.specs.Interchange.{book_for, is_within};
 ghost use Rattle.x12_station.specs.declared.fault.StationFault.TheVariants.{Exhausted, Memory, Store};
@@ -113,17 +113,17 @@ pub(crate) fn drafted(
 ) -> Result<Draft, StationFault>
     requires judged { let ags = map agreement_view memory.now.agreements.items in
         judgement_view judgement.now
-        ≡ judged_by (edition_at (memory.now.seq + 1)) memory.now.me ags header.now
+        ≡ judged_by (edition_at no_marks (memory.now.seq + 1)) memory.now.me ags header.now
         (arrived_view arrived).bytes }
     requires read { header_of (arrived_view arrived).bytes ≡ Ok header.now }
     requires filed { arrived_view arrived
         ≡ arrival header.now.sender header.now.icn (arrived_view arrived).bytes }
-    ensures draft { IfOk result (λ d. IsDraft (edition_at (memory.now.seq + 1)) memory.now.me
+    ensures draft { IfOk result (λ d. IsDraft (edition_at no_marks (memory.now.seq + 1)) memory.now.me
         (map agreement_view memory.now.agreements.items) at.now memory.now.book header.now
         (arrived_view arrived.entry).bytes d) }
 
     ensures spent { IfErr result (λ f. IsRowOrWant (exhausted (is_spent memory.now.book
-        (needs_of (edition_at (memory.now.seq + 1)) memory.now.me
+        (needs_of (edition_at no_marks (memory.now.seq + 1)) memory.now.me
         (map agreement_view memory.now.agreements.items)
         (arrived_view arrived.entry).bytes header.now))) f) }
     ensures own { IfErr result (λ f. f ≢ Store) }

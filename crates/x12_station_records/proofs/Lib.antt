@@ -30,6 +30,7 @@ pub mod StationListings
 pub mod StationLoadLemmas
 pub mod StationNewLemmas
 pub mod StationNumberLemmas
+pub mod StationOlder
 pub mod StationOnceLemmas
 pub mod StationOneLemmas
 pub mod StationOpenLemmas

@@ -34,13 +34,13 @@ use Rattle.x12_station_records.specs.StationTables.{numbers_row}
 use Rattle.x12_station_records.specs.declared.station_numbers.NumbersRow.{NumbersRow}
 
 abbrev pub pairs_text : List ℕ
-pairs_text = codes "SELECT partner, functional, setid, at, lenient FROM agreement ORDER BY at"
+pairs_text = codes "SELECT partner, functional, setid, lenient, at FROM agreement ORDER BY at"
 
 abbrev pub pairs_shows : List Term
-pairs_shows = col 1 2 ∷ col 1 3 ∷ col 1 5 ∷ col 1 0 ∷ col 1 4 ∷ []
+pairs_shows = col 1 2 ∷ col 1 3 ∷ col 1 5 ∷ col 1 4 ∷ col 1 0 ∷ []
 
 abbrev pub pairs_command : Command
-pairs_command = Select (record { lets = []; body = one_table 1 [] pairs_shows by_at }) (codes "partner" ∷ codes "functional" ∷ codes "setid" ∷ codes "at" ∷ codes "lenient" ∷ [])
+pairs_command = Select (record { lets = []; body = one_table 1 [] pairs_shows by_at }) (codes "partner" ∷ codes "functional" ∷ codes "setid" ∷ codes "lenient" ∷ codes "at" ∷ [])
 
 pub pairs_is : (command_of (understood station_schema pairs_text) ≡ pairs_command) × (reads_listing station_schema pairs_text ≡ false) × IsPlain (understood station_schema pairs_text)
 unfolding understood everything
@@ -123,7 +123,7 @@ unfolding everything
 posted_asks = select_asks posted_text ((λ s base. refl), (λ s. refl))
 
 abbrev pub pairs_names : List (List ℕ)
-pairs_names = codes "partner" ∷ codes "functional" ∷ codes "setid" ∷ codes "at" ∷ codes "lenient" ∷ []
+pairs_names = codes "partner" ∷ codes "functional" ∷ codes "setid" ∷ codes "lenient" ∷ codes "at" ∷ []
 
 pub pairs_reads : ReadsAll station_schema 1 pairs_shows by_at pairs_names pairs_text
 unfolding understood everything

@@ -1,10 +1,10 @@
 -- What the statements on a station's tables compile to.
-use Rattle.std.proofs.Common.{◌≡◌, ℕ, pos, List, [], ◌∷◌, codes, refl}
+use Rattle.std.proofs.Common.{◌≡◌, ℕ, List, [], ◌∷◌, codes, refl}
 use Rattle.sqlite.specs.Command.TheVariants.{Update, Delete, Insert}
 use Rattle.sqlite.specs.Source.TheVariants.{Values}
 use Rattle.sqlite.specs.Listing.{understood}
 use Rattle.sqlite.specs.Term.{Term, col, lit}
-use Rattle.sqlite.specs.declared.types.Value.TheVariants.{Null, Int}
+use Rattle.sqlite.specs.declared.types.Value.TheVariants.{Null}
 use Rattle.sqlite.proofs.Callers.{IsPlain, command_of}
 use Rattle.sqlite_tied.specs.Compute.{everything}
 use Rattle.sql_rows.proofs.Selects.{one_table}
@@ -30,10 +30,10 @@ unfolding understood everything
 withdraw_is = (refl, (refl, refl))
 
 abbrev pub agree_text : List ℕ
-agree_text = codes "INSERT INTO agreement (at, partner, functional, lenient, setid) VALUES (?1, ?2, ?3, 0, ?4)"
+agree_text = codes "INSERT INTO agreement (at, partner, functional, lenient, setid) VALUES (?1, ?2, ?3, ?4, ?5)"
 
 abbrev pub agree_terms : List Term
-agree_terms = col 0 0 ∷ lit Null ∷ col 0 1 ∷ col 0 2 ∷ lit (Int (pos 0)) ∷ col 0 3 ∷ []
+agree_terms = col 0 0 ∷ lit Null ∷ col 0 1 ∷ col 0 2 ∷ col 0 3 ∷ col 0 4 ∷ []
 
 pub agree_is : (command_of (understood station_schema agree_text) ≡ Insert 1 (Values agree_terms 6)) × IsPlain (understood station_schema agree_text)
 unfolding understood everything

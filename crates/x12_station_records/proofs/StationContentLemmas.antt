@@ -1,6 +1,8 @@
 -- The tables of sound records of a station stand for these records.
-use Rattle.std.proofs.Common.{◌≡◌, ◌<◌, ◌++◌, ◌+◌, ℕ, List, [], ◌∷◌, map, false, All, AllPairs, Option, Some, None, option_to_list, IsPermutation, refl, sym, ap, subst, ◌∙◌, arith}
+use Rattle.std.proofs.Common.{◌≡◌, ◌<◌, ◌++◌, ◌+◌, ◌&&◌, ℕ, List, [], ◌∷◌, map, Bool, true, false, All, AllPairs, Option, Some, None, option_to_list, IsPermutation, refl, sym, ap, subst, ◌∙◌, arith}
+use Rattle.std.specs.Bool.{beq}
 use Rattle.std.specs.List.{AllByRecursion, IsDistinct, enumerate_from}
+use Rattle.std.proofs.lemmas.Bool.{and_parts}
 use Rattle.std.proofs.lemmas.List.Sorted.{IsPermutation-sym}
 use Rattle.sqlite.specs.Effect.{Database}
 use Rattle.sqlite.specs.Order.{Row}
@@ -10,6 +12,7 @@ use Rattle.sql_rows.proofs.Sorted.{by_key_is, by_key_from}
 use Rattle.x12_acks.specs.Accepted.{AcceptedSet}
 use Rattle.x12_envelopes.specs.declared.party.Party.{Party}
 use Rattle.x12_judge.specs.Agreement.{TradingAgreement, is_same_party}
+use Rattle.x12_judge.proofs.Shelf.{same_party}
 use Rattle.x12_outbound.specs.declared.fate.Fate.{Fate}
 use Rattle.x12_acks.proofs.ReplyGroupLemmas.{same_party_itself}
 use Rattle.x12_station.proofs.SeqLemmas.{all_behind, pairs_head, pairs_tail}
@@ -17,48 +20,66 @@ use Rattle.x12_station.specs.Stored.{Stored, StoredSubmission, StoredSet, Stored
 use Rattle.x12_tables.proofs.PartyLemmas.{party_back}
 use Rattle.x12_tables.specs.First.{first_row}
 use Rattle.x12_tables.specs.Party.{IsWideParty}
-use Rattle.x12_station_records.specs.StationContent.{pair_joined, agreements_of, pair_in, submission_in, fate_numbered, set_in, reply_in, arrival_in, posting_in, kept_numbers_in, content_of}
+use Rattle.x12_station_records.specs.StationContent.{pair_joined, agreements_of, pair_in, submission_in, fate_numbered, lenient_numbered, set_in, reply_in, arrival_in, posting_in, kept_numbers_in, content_of}
 use Rattle.x12_station_records.specs.StationNumbers.{other_in, numbers_view, KeptNumbers, numbers_kept_of}
-use Rattle.x12_station_records.specs.StationTables.{pair_of, AgreedPair, agreed_pairs, pair_row, by_icn, submission_row, fate_number, row_of_set, reply_value, arrival_row, by_seq, posting_row, other_value, numbers_row, AreWideParties, HoldsNumbersRow, HasTables}
+use Rattle.x12_station_records.specs.StationTables.{pair_of, AgreedPair, agreed_pairs, pair_row, by_icn, submission_row, fate_number, lenient_number, row_of_set, reply_value, arrival_row, by_seq, posting_row, other_value, numbers_row, AreWideParties, HoldsNumbersRow, HasTables}
 use Rattle.x12_station_records.specs.declared.station_numbers.NumbersRow.{NumbersRow}
-use Rattle.x12_outbound.specs.declared.fate.Fate.TheVariants.{Pending, Accepted, Rejected}
+use Rattle.x12_outbound.specs.declared.fate.Fate.TheVariants.{Pending, Accepted, Noted, Rejected}
 
 -- Agreements.
+-- the same partner, as leniently
+pub both_same : (q p : Party) (l m : Bool) → is_same_party q p && beq l m ≡ true → (q ≡ p) × (l ≡ m)
+both_same q p l m h = let parts = and_parts (is_same_party q p) (beq l m) h in (same_party q p parts.0, alike l m parts.1)
+  where
+    alike : (l m : Bool) → beq l m ≡ true → l ≡ m
+    alike true true h = refl
+    alike true false h = absurd cc
+    alike false true h = absurd cc
+    alike false false h = refl
+
 -- no agreement here is with the partner
 abbrev AreOthers : Party → List TradingAgreement → Type 0
 AreOthers partner others = AllByRecursion (λ b. is_same_party partner b.partner ≡ false) others
 
 -- a first pair is an agreement of its own
-alone : (partner : Party) (q : List ℕ × List ℕ) (others : List TradingAgreement) → AreOthers partner others → pair_joined (pair_of partner q) others ≡ record { partner = partner; pairs = q ∷ [] } ∷ others
-alone partner q [] h = refl
-alone partner q (b ∷ others) h = rw h.0 refl
+alone : (partner : Party) (lenient : Bool) (q : List ℕ × List ℕ) (others : List TradingAgreement) → AreOthers partner others → pair_joined (pair_of partner lenient q) others ≡ record { partner = partner; lenient = lenient; pairs = q ∷ [] } ∷ others
+alone partner lenient q [] h = refl
+alone partner lenient q (b ∷ others) h = rw h.0 refl
+
+as_itself : (lenient : Bool) → beq lenient lenient ≡ true
+as_itself true = refl
+as_itself false = refl
 
 -- the pairs of an agreement in front of what stands for others
-in_front : (partner : Party) (q : List ℕ × List ℕ) (pairs : List (List ℕ × List ℕ)) (more : List AgreedPair) (others : List TradingAgreement) → agreements_of more ≡ others → AreOthers partner others
-    → agreements_of (map (pair_of partner) (q ∷ pairs) ++ more) ≡ record { partner = partner; pairs = q ∷ pairs } ∷ others
-in_front partner q [] more others is h = rw is (alone partner q others h)
-in_front partner q (r ∷ pairs) more others is h = rw (in_front partner r pairs more others is h, same_party_itself partner) refl
+in_front : (partner : Party) (lenient : Bool) (q : List ℕ × List ℕ) (pairs : List (List ℕ × List ℕ)) (more : List AgreedPair) (others : List TradingAgreement) → agreements_of more ≡ others → AreOthers partner others
+    → agreements_of (map (pair_of partner lenient) (q ∷ pairs) ++ more) ≡ record { partner = partner; lenient = lenient; pairs = q ∷ pairs } ∷ others
+in_front partner lenient q [] more others is h = rw is (alone partner lenient q others h)
+in_front partner lenient q (r ∷ pairs) more others is h = rw (in_front partner lenient r pairs more others is h, same_party_itself partner, as_itself lenient) refl
 
 pub agreements_back : (agreements : List TradingAgreement) → IsDistinct (λ (a b : TradingAgreement). is_same_party a.partner b.partner) agreements → All IsKeptAgreement agreements → agreements_of (agreed_pairs agreements) ≡ agreements
 unfolding IsDistinct
 agreements_back [] once kept = refl
 agreements_back (a ∷ more) once kept = by (agreements_back more once.1 (all_behind IsKeptAgreement (a ∷ []) more kept)) a.pairs refl
   where
-    by : agreements_of (agreed_pairs more) ≡ more → (pairs : List (List ℕ × List ℕ)) → a.pairs ≡ pairs → agreements_of (map (pair_of a.partner) a.pairs ++ agreed_pairs more) ≡ a ∷ more
+    by : agreements_of (agreed_pairs more) ≡ more → (pairs : List (List ℕ × List ℕ)) → a.pairs ≡ pairs → agreements_of (map (pair_of a.partner a.lenient) a.pairs ++ agreed_pairs more) ≡ a ∷ more
     by rest [] is = absurd ((kept 0 a (omega arith)).pairs is)
-    by rest (q ∷ pairs) is = rw is (in_front a.partner q pairs (agreed_pairs more) more rest once.0)
+    by rest (q ∷ pairs) is = rw is (in_front a.partner a.lenient q pairs (agreed_pairs more) more rest once.0)
+
+pub lenient_back : (lenient : Bool) → lenient_numbered (lenient_number lenient) ≡ lenient
+lenient_back true = refl
+lenient_back false = refl
 
 pairs_back : (at : List (ℕ × AgreedPair)) → AllByRecursion (λ (p : AgreedPair). IsWideParty p.partner) (map (λ (x : ℕ × AgreedPair). x.1) at) → map pair_in (map (with_id pair_row) at) ≡ map (λ (x : ℕ × AgreedPair). x.1) at
 pairs_back [] h = refl
-pairs_back (x ∷ at) h = rw (party_back x.1.partner h.0, pairs_back at h.1) refl
+pairs_back (x ∷ at) h = rw (party_back x.1.partner h.0, lenient_back x.1.lenient, pairs_back at h.1) refl
 
-pairs_of_one : (partner : Party) (pairs : List (List ℕ × List ℕ)) (more : List AgreedPair) → IsWideParty partner → AllByRecursion (λ (p : AgreedPair). IsWideParty p.partner) more → AllByRecursion (λ (p : AgreedPair). IsWideParty p.partner) (map (pair_of partner) pairs ++ more)
-pairs_of_one partner [] more h all = all
-pairs_of_one partner (q ∷ pairs) more h all = (h, pairs_of_one partner pairs more h all)
+pairs_of_one : (partner : Party) (lenient : Bool) (pairs : List (List ℕ × List ℕ)) (more : List AgreedPair) → IsWideParty partner → AllByRecursion (λ (p : AgreedPair). IsWideParty p.partner) more → AllByRecursion (λ (p : AgreedPair). IsWideParty p.partner) (map (pair_of partner lenient) pairs ++ more)
+pairs_of_one partner lenient [] more h all = all
+pairs_of_one partner lenient (q ∷ pairs) more h all = (h, pairs_of_one partner lenient pairs more h all)
 
 pub pairs_of_all : (agreements : List TradingAgreement) → AllByRecursion (λ (a : TradingAgreement). IsWideParty a.partner) agreements → AllByRecursion (λ (p : AgreedPair). IsWideParty p.partner) (agreed_pairs agreements)
 pairs_of_all [] h = tt
-pairs_of_all (a ∷ more) h = pairs_of_one a.partner a.pairs (agreed_pairs more) h.0 (pairs_of_all more h.1)
+pairs_of_all (a ∷ more) h = pairs_of_one a.partner a.lenient a.pairs (agreed_pairs more) h.0 (pairs_of_all more h.1)
 
 -- Submissions.
 icns_from : (n : ℕ) (rs : List StoredSubmission) → AllPairs (λ (r : StoredSubmission) q. r.icn < q.icn) rs → All (λ (r : StoredSubmission). n < r.icn) rs → RisesFrom n (map by_icn rs)
@@ -79,6 +100,7 @@ pub fate_back : (f : Fate) → fate_numbered (fate_number f) ≡ f
 fate_back Pending = refl
 fate_back Accepted = refl
 fate_back Rejected = refl
+fate_back Noted = refl
 
 sets_back : (n : ℕ) (ts : List StoredSet) → map set_in (map (with_id row_of_set) (enumerate_from n ts)) ≡ ts
 sets_back n [] = refl

@@ -1,18 +1,19 @@
 -- A station's last numbers and its agreements, once their rows are tested.
-use Rattle.std.proofs.Common.{◌≡◌, ◌<◌, ◌+◌, ◌++◌, ◌∙◌, ℕ, List, [], ◌∷◌, length, map, not, false, refl, sym, ap, ap₂, subst, inl, inr, arith, IsPermutation}
+use Rattle.std.proofs.Common.{◌≡◌, ◌<◌, ◌+◌, ◌++◌, ◌∙◌, ◌&&◌, ℕ, List, [], ◌∷◌, length, map, not, false, refl, sym, ap, ap₂, subst, inl, inr, arith, IsPermutation}
+use Rattle.std.specs.Bool.{beq}
 use Rattle.std.specs.List.{AllByRecursion}
 use Rattle.std.proofs.lemmas.Bool.{cases_Bool, not-true}
 use Rattle.sqlite.specs.Order.{Row, column}
 use Rattle.sqlite_sql.specs.Ops.{is_null}
 use Rattle.sql_rows.specs.Keyed.{with_id, RisesFrom, AreRows, by_key}
 use Rattle.x12_judge.specs.Agreement.{TradingAgreement, is_same_party}
-use Rattle.x12_judge.proofs.Shelf.{same_party}
 use Rattle.x12_numbers.proofs.Shelf.{all_weaker}
 use Rattle.x12_tables.proofs.OneRowLemmas.{one_holds}
 use Rattle.x12_tables.proofs.RowLemmas.{IsStored, each_passed, row_is, typed_is, long_is, blob, party, wide_party_in, kept}
 use Rattle.x12_tables.proofs.StoredLemmas.{null_is}
 use Rattle.x12_tables.specs.OneRow.{AreColumns, whole, IsOneRow}
 use Rattle.x12_tables.specs.Party.{IsWideParty}
+use Rattle.x12_station_records.proofs.StationContentLemmas.{both_same}
 use Rattle.x12_station_records.specs.StationAdopt.{ArePairs, AreAgreed}
 use Rattle.x12_station_records.specs.StationAgreed.{pair_shown, AreKept}
 use Rattle.x12_station_records.specs.StationContent.{pair_in, pair_joined, agreements_of}
@@ -42,7 +43,7 @@ numbers_hold n = one_holds numbers_row n show_numbers (IsStored (numbers 0)) (nu
 
 -- The agreements.
 abbrev pub show_pair : Row → Row
-show_pair r = column r 2 ∷ column r 3 ∷ column r 5 ∷ column r 0 ∷ column r 4 ∷ []
+show_pair r = column r 2 ∷ column r 3 ∷ column r 5 ∷ column r 4 ∷ column r 0 ∷ []
 
 record Pairs (last end : ℕ) (rs : List Row) : Type 0 where
   at : List (ℕ × AgreedPair)
@@ -63,7 +64,7 @@ all_pairs last end (r ∷ rs) stored are =
     let long : length r ≡ 6 = long_is (agreement 1) 5 r h refl (not-true (is_null (column r 5)) some.1.1.1.0) in
     let typed = typed_is (agreement 1) r h long in
     let row : r ≡ with_id pair_row (are.0, pair_in r) =
-    row_is r (with_id pair_row (are.0, pair_in r)) long (it.at_is, (null_is (column r 1) typed.0, (party (column r 2) typed.1.0 some.0, (blob (column r 3) typed.1.1.0 some.1.0, (it.strict, (blob (column r 5) typed.1.1.1.1.0 some.1.1.1.0, tt)))))) in
+    row_is r (with_id pair_row (are.0, pair_in r)) long (it.at_is, (null_is (column r 1) typed.0, (party (column r 2) typed.1.0 some.0, (blob (column r 3) typed.1.1.0 some.1.0, (it.lenient, (blob (column r 5) typed.1.1.1.1.0 some.1.1.1.0, tt)))))) in
     record {
       at = (are.0, pair_in r) ∷ rest.at;
       rows_are = ap₂ (λ x xs. x ∷ xs) row rest.rows_are;
@@ -77,9 +78,9 @@ all_pairs last end (r ∷ rs) stored are =
 -- pairs of agreements are those that these were put together from
 joined_back : (p : AgreedPair) (agreements : List TradingAgreement) → agreed_pairs (pair_joined p agreements) ≡ p ∷ agreed_pairs agreements
 joined_back p [] = refl
-joined_back p (a ∷ more) = elim (cases_Bool (is_same_party p.partner a.partner)) [
-  | inl yes1 ↦ (let same : a.partner ≡ p.partner = sym (same_party p.partner a.partner yes1) in
-      rw yes1 (ap (λ q. pair_of q (p.functional, p.set) ∷ (map (pair_of a.partner) a.pairs ++ agreed_pairs more)) same))
+joined_back p (a ∷ more) = elim (cases_Bool (is_same_party p.partner a.partner && beq p.lenient a.lenient)) [
+  | inl yes1 ↦ (let same = both_same p.partner a.partner p.lenient a.lenient yes1 in
+      rw yes1 (ap₂ (λ q l. pair_of q l (p.functional, p.set) ∷ (map (pair_of a.partner a.lenient) a.pairs ++ agreed_pairs more)) (sym same.0) (sym same.1)))
   | inr no1 ↦ rw no1 refl
 ]
 
@@ -89,7 +90,7 @@ pairs_of (p ∷ ps) = joined_back p (agreements_of ps) ∙ ap (λ qs. p ∷ qs) 
 
 joined_parties : (p : AgreedPair) (agreements : List TradingAgreement) → IsWideParty p.partner → AllByRecursion (λ a. IsWideParty a.partner) agreements → AllByRecursion (λ a. IsWideParty a.partner) (pair_joined p agreements)
 joined_parties p [] h all = (h, tt)
-joined_parties p (a ∷ more) h all = elim (cases_Bool (is_same_party p.partner a.partner)) [
+joined_parties p (a ∷ more) h all = elim (cases_Bool (is_same_party p.partner a.partner && beq p.lenient a.lenient)) [
   | inl yes1 ↦ rw yes1 all
   | inr no1 ↦ rw no1 (h, all)
 ]

@@ -38,7 +38,7 @@ cast_other None = refl
 cast_other (Some party) = refl
 
 pub casts : (x : ℕ × NumbersRow) → cast_row (numbers 0) (with_id numbers_row x) ≡ with_id numbers_row x
-casts x = rw (cast_int x.0, cast_null, cast_int 1, cast_other x.1.owner.other, cast_int x.1.book.interchange, cast_int x.1.book.group, cast_int x.1.seq, cast_int x.1.handed, cast_int x.1.owner.noted, cast_int x.1.owner.era) refl
+casts x = rw (cast_int x.0, cast_null, cast_int 2, cast_other x.1.owner.other, cast_int x.1.book.interchange, cast_int x.1.book.group, cast_int x.1.seq, cast_int x.1.handed, cast_int x.1.owner.noted, cast_int x.1.owner.era) refl
 
 pub counts : (old new : State) (book : Numbers) (seq count next : ℕ) (s : Stored) → CanBeUsed book → HasTables next old.now s → Executes count_text (Int (pos book.interchange) ∷ Int (pos book.group) ∷ Int (pos seq) ∷ []) old new (Ok count) → HasTables next new.now (with_last_numbers book seq s)
 counts old new book seq count next s used has h =

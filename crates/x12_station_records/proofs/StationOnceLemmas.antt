@@ -6,7 +6,7 @@ use Rattle.std.proofs.lemmas.Bool.{cases_Bool}
 use Rattle.std.proofs.lemmas.List.Elements.{filter-append}
 use Rattle.sqlite.specs.Effect.{Database}
 use Rattle.sqlite.specs.State.{State}
-use Rattle.x12_envelopes.specs.declared.party.Party.{Party}
+use Rattle.x12_judge.specs.Agreement.{TradingAgreement}
 use Rattle.x12_station.specs.Station.{each_once}
 use Rattle.x12_station.specs.Stored.{Stored}
 use Rattle.x12_numbers.proofs.Shelf.{bytes_eq_tells}
@@ -50,19 +50,19 @@ once_there (x ∷ ps) k h = elim (cases_Bool (list_any (is_same_pair k) ps)) [
   ]
 ]
 
-module _ (a b : State) (partner : Party) (before : List Pair) (k : Pair) (from : ℕ) where
-  pub pair_there : list_any (is_same_pair k) before ≡ true → AddsPair partner before k from from a a
-  pair_there h s has = subst (λ ps. HasTables from a.now (with_pairs partner ps s)) (sym (once_there before k h)) has
+module _ (a b : State) (g : TradingAgreement) (before : List Pair) (k : Pair) (from : ℕ) where
+  pub pair_there : list_any (is_same_pair k) before ≡ true → AddsPair g before k from from a a
+  pair_there h s has = subst (λ ps. HasTables from a.now (with_pairs g ps s)) (sym (once_there before k h)) has
 
-  pub pair_new : list_any (is_same_pair k) before ≡ false → Enters from (with_pairs partner (each_once before)) (with_pairs partner (each_once before ++ k ∷ [])) a b → AddsPair partner before k from (from + 1) a b
-  pair_new h enters s has = subst (λ ps. HasTables (from + 1) b.now (with_pairs partner ps s)) (sym (once_new before k h)) (enters s has)
+  pub pair_new : list_any (is_same_pair k) before ≡ false → Enters from (with_pairs g (each_once before)) (with_pairs g (each_once before ++ k ∷ [])) a b → AddsPair g before k from (from + 1) a b
+  pair_new h enters s has = subst (λ ps. HasTables (from + 1) b.now (with_pairs g ps s)) (sym (once_new before k h)) (enters s has)
 
-pub and_pair : (a b c : State) (partner : Party) (before : List Pair) (k : Pair) (from mid to : ℕ) → AddsPairs partner from before mid a b → AddsPair partner before k mid to b c → AddsPairs partner from (before ++ k ∷ []) to a c
-and_pair a b c partner before k from mid to first second s has = second s (first s has)
+pub and_pair : (a b c : State) (g : TradingAgreement) (before : List Pair) (k : Pair) (from mid to : ℕ) → AddsPairs g from before mid a b → AddsPair g before k mid to b c → AddsPairs g from (before ++ k ∷ []) to a c
+and_pair a b c g before k from mid to first second s has = second s (first s has)
 
 -- an agreement of no pair has no row
-without_last : (db : Database) (partner : Party) (next : ℕ) (s : Stored) → HasTables next db (with_pairs partner [] s) → HasTables next db s
-without_last db partner next s has = record {
+without_last : (db : Database) (g : TradingAgreement) (next : ℕ) (s : Stored) → HasTables next db (with_pairs g [] s) → HasTables next db s
+without_last db g next s has = record {
   schema = has.schema;
   numbers = has.numbers;
   agreements = record {
@@ -71,9 +71,9 @@ without_last db partner next s has = record {
     counted = has.agreements.counted;
     few = has.agreements.few;
     within = has.agreements.within;
-    pairs_are = has.agreements.pairs_are ∙ pairs_and_last s.agreements (record { partner = partner; pairs = [] }) ∙ append-nil (agreed_pairs s.agreements);
-    parties = (but_last (λ a. IsWideParty a.partner) s.agreements (record { partner = partner; pairs = [] }) has.agreements.parties).0;
-    wide = subst (AllByRecursion IsWidePair) (pairs_and_last s.agreements (record { partner = partner; pairs = [] }) ∙ append-nil (agreed_pairs s.agreements)) has.agreements.wide;
+    pairs_are = has.agreements.pairs_are ∙ pairs_and_last s.agreements (record g { pairs = [] }) ∙ append-nil (agreed_pairs s.agreements);
+    parties = (but_last (λ a. IsWideParty a.partner) s.agreements (record g { pairs = [] }) has.agreements.parties).0;
+    wide = subst (AllByRecursion IsWidePair) (pairs_and_last s.agreements (record g { pairs = [] }) ∙ append-nil (agreed_pairs s.agreements)) has.agreements.wide;
   };
   submitted = has.submitted;
   sets = has.sets;
@@ -82,6 +82,6 @@ without_last db partner next s has = record {
   postings = has.postings;
 }
 
-pub agrees_all : (a b c : State) (partner : Party) (pairs : List Pair) (from to : ℕ) → IsWideParty partner → Turns (withdrawn partner) Always a b → AddsPairs partner from pairs to b c → AgreesAll (record { partner = partner; pairs = pairs }) from to a c
-agrees_all a b c partner [] from to two first second s has = without_last c.now partner to (withdrawn partner s) (second (withdrawn partner s) (begun b.now partner from (withdrawn partner s) two (first from s tt has)))
-agrees_all a b c partner (p ∷ ps) from to two first second s has = second (withdrawn partner s) (begun b.now partner from (withdrawn partner s) two (first from s tt has))
+pub agrees_all : (a b c : State) (g : TradingAgreement) (pairs : List Pair) (from to : ℕ) → IsWideParty g.partner → Turns (withdrawn g.partner) Always a b → AddsPairs g from pairs to b c → AgreesAll (record g { pairs = pairs }) from to a c
+agrees_all a b c g [] from to two first second s has = without_last c.now g to (withdrawn g.partner s) (second (withdrawn g.partner s) (begun b.now g from (withdrawn g.partner s) two (first from s tt has)))
+agrees_all a b c g (p ∷ ps) from to two first second s has = second (withdrawn g.partner s) (begun b.now g from (withdrawn g.partner s) two (first from s tt has))

@@ -38,7 +38,7 @@ use Rattle.x12_station_records.specs.StationOpen.{open_numbers, number_shown, ar
 use Rattle.x12_station_records.specs.StationSchema.{station_schema}
 use Rattle.x12_station_records.specs.StationTables.{fate_number, row_of_set, HasTables}
 use Rattle.x12_station_records.specs.declared.station_loading.Opened.{Opened}
-use Rattle.x12_outbound.specs.declared.fate.Fate.TheVariants.{Pending, Accepted, Rejected}
+use Rattle.x12_outbound.specs.declared.fate.Fate.TheVariants.{Pending, Accepted, Noted, Rejected}
 
 abbrev pub open_text : List ℕ
 open_text = codes "SELECT icn FROM outset WHERE fate = ?1 ORDER BY at"
@@ -61,6 +61,7 @@ pending_test : (f : Fate) → (fate_number f == 0) && true ≡ is_pending f
 pending_test Pending = refl
 pending_test Accepted = refl
 pending_test Rejected = refl
+pending_test Noted = refl
 
 abbrev pends : ℕ × StoredSet → Bool
 pends x = is_pending x.1.fate

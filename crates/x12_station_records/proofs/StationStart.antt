@@ -29,10 +29,10 @@ use Rattle.x12_station_records.specs.StationTables.{other_value, posting_row, nu
 use Rattle.x12_station_records.specs.declared.station_numbers.NumbersRow.{NumbersRow}
 
 abbrev pub start_text : List ℕ
-start_text = codes "INSERT INTO numbers (one, version, party, hub, other, icn, gcn, seq, handed, noted, era) VALUES (1, 1, ?1, ?2, ?3, 0, 0, 0, 0, 0, 0)"
+start_text = codes "INSERT INTO numbers (one, version, party, hub, other, icn, gcn, seq, handed, noted, era) VALUES (1, 2, ?1, ?2, ?3, 0, 0, 0, 0, 0, 0)"
 
 abbrev start_terms : List Term
-start_terms = lit (Int (pos 1)) ∷ lit Null ∷ lit (Int (pos 1)) ∷ col 0 0 ∷ col 0 1 ∷ col 0 2 ∷ lit (Int (pos 0)) ∷ lit (Int (pos 0)) ∷ lit (Int (pos 0)) ∷ lit (Int (pos 0)) ∷ lit (Int (pos 0)) ∷ lit (Int (pos 0)) ∷ []
+start_terms = lit (Int (pos 1)) ∷ lit Null ∷ lit (Int (pos 2)) ∷ col 0 0 ∷ col 0 1 ∷ col 0 2 ∷ lit (Int (pos 0)) ∷ lit (Int (pos 0)) ∷ lit (Int (pos 0)) ∷ lit (Int (pos 0)) ∷ lit (Int (pos 0)) ∷ lit (Int (pos 0)) ∷ []
 
 start_is : (command_of (understood station_schema start_text) ≡ Insert 0 (Values start_terms 12)) × IsPlain (understood station_schema start_text)
 unfolding understood everything

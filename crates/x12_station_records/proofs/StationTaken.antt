@@ -21,7 +21,7 @@ use Rattle.x12_tables.proofs.PartyLemmas.{party_back}
 use Rattle.x12_tables.specs.OneRow.{whole}
 use Rattle.x12_tables.specs.Party.{IsWideParty, bytes_of_party, bytes_in}
 use Rattle.x12_station_records.proofs.StationAdoptReads.{pairs_shows, arrived_shows, pairs_text, posted_names, sent_shows, arrived_is, posted_text, posted_is, pairs_names, arrived_names, sent_is, pairs_is, arrived_text, sent_names, posted_shows, sent_text}
-use Rattle.x12_station_records.proofs.StationContentLemmas.{agreements_back, pairs_of_all}
+use Rattle.x12_station_records.proofs.StationContentLemmas.{agreements_back, pairs_of_all, lenient_back}
 use Rattle.x12_station_records.proofs.StationListings.{lists_all}
 use Rattle.x12_station_records.proofs.StationNumberLemmas.{numbers_shows, numbers_text, numbers_is, numbers_names}
 use Rattle.x12_station_records.specs.StationAdopt.{ArePairs, IsSubmission, IsArrivalRow, ArePostings}
@@ -29,7 +29,7 @@ use Rattle.x12_station_records.specs.StationAgreed.{pair_shown, AreKept}
 use Rattle.x12_station_records.specs.StationContent.{agreements_of, content_of}
 use Rattle.x12_station_records.specs.StationNumbers.{KeptNumbers}
 use Rattle.x12_station_records.specs.StationSchema.{station_schema}
-use Rattle.x12_station_records.specs.StationTables.{numbers_row, AreWideParties, other_value, AgreedPair, IsWidePair, by_icn, by_seq, IsWidePosting, posting_row, CanBeUsed, arrival_row, submission_row, pair_row}
+use Rattle.x12_station_records.specs.StationTables.{numbers_row, AreWideParties, other_value, AgreedPair, IsWidePair, by_icn, by_seq, IsWidePosting, posting_row, CanBeUsed, arrival_row, submission_row, pair_row, lenient_number}
 use Rattle.x12_station_records.specs.StationTaken.{IsNumbersRow, HasPair, AreChained, ArePairsKept, IsOneNumbersRow, HoldsStation}
 use Rattle.x12_station_records.specs.declared.station_numbers.NumbersRow.{NumbersRow}
 
@@ -59,7 +59,7 @@ numbers_row_is n parties icn gcn few = record {
 
 -- the pairs of agreements
 abbrev pair_shows : ℕ × AgreedPair → Row
-pair_shows x = Blob (bytes_of_party x.1.partner) ∷ Blob x.1.functional ∷ Blob x.1.set ∷ Int (pos x.0) ∷ Int (pos 0) ∷ []
+pair_shows x = Blob (bytes_of_party x.1.partner) ∷ Blob x.1.functional ∷ Blob x.1.set ∷ Int (pos (lenient_number x.1.lenient)) ∷ Int (pos x.0) ∷ []
 
 pairs : (from next : ℕ) (at : List (ℕ × AgreedPair)) → from < next → RisesFrom from at → AllByRecursion (λ x. x.0 < next) at
     → AllByRecursion IsWidePair (map (λ (x : ℕ × AgreedPair). x.1) at) → (end : ℕ) × ArePairs from end (map pair_shows at) × (end < next) × AllByRecursion HasPair (map pair_shows at)
@@ -67,11 +67,16 @@ pairs from next [] low rise within wide = (from, refl, low, tt)
 pairs from next (x ∷ at) low rise within wide =
     let rest = pairs x.0 next at within.0 rise.1 within.1 wide.1 in
     let bytes = wide_party x.1.partner wide.0.0 in
-    (rest.0, (x.0, record { above = rise.0; at_is = refl; strict = refl; partner = bytes; functional = wide.0.1; set = wide.0.2 }, rest.1), rest.2, (record { partner = bytes; functional = wide.0.1; set = wide.0.2 }, rest.3))
+    let lenient = ap (λ b. Int (pos (lenient_number b))) (sym (lenient_back x.1.lenient)) in (
+      rest.0,
+      (x.0, record { above = rise.0; at_is = refl; partner = bytes; functional = wide.0.1; set = wide.0.2; lenient = lenient }, rest.1),
+      rest.2,
+      (record { partner = bytes; functional = wide.0.1; set = wide.0.2; lenient = lenient }, rest.3),
+    )
 
 pairs_back : (at : List (ℕ × AgreedPair)) → AllByRecursion (λ (p : AgreedPair). IsWideParty p.partner) (map (λ (x : ℕ × AgreedPair). x.1) at) → map pair_shown (map pair_shows at) ≡ map (λ (x : ℕ × AgreedPair). x.1) at
 pairs_back [] h = refl
-pairs_back (x ∷ at) h = rw (party_back x.1.partner h.0, pairs_back at h.1) refl
+pairs_back (x ∷ at) h = rw (party_back x.1.partner h.0, lenient_back x.1.lenient, pairs_back at h.1) refl
 
 -- the submissions
 abbrev sent_shown : ℕ × StoredSubmission → Row

@@ -21,12 +21,12 @@ use Rattle.x12_tables.specs.Adopt.{ObeysSchema}
 use Rattle.x12_tables.specs.OneRow.{whole, IsOneRow}
 use Rattle.x12_tables.specs.Party.{bytes_in, IsParty}
 use Rattle.x12_station_records.specs.StationAgreed.{AreKept, pair_shown}
-use Rattle.x12_station_records.specs.StationContent.{fate_numbered, agreements_of, content_of}
+use Rattle.x12_station_records.specs.StationContent.{fate_numbered, lenient_numbered, agreements_of, content_of}
 use Rattle.x12_station_records.specs.StationGroups.{set_shown, AreWhole, AreSendable, rows_of_groups}
 use Rattle.x12_station_records.specs.StationOpen.{are_between}
 use Rattle.x12_station_records.specs.StationPlan.{HoldsRows}
 use Rattle.x12_station_records.specs.StationSchema.{station_schema}
-use Rattle.x12_station_records.specs.StationTables.{fate_number, numbers_row, AreWideParties, CanBeUsed, HoldsAgreements, HoldsSubmissions, row_of_set, IsWideSet, HoldsArrivals, HoldsPostings}
+use Rattle.x12_station_records.specs.StationTables.{fate_number, lenient_number, numbers_row, AreWideParties, CanBeUsed, HoldsAgreements, HoldsSubmissions, row_of_set, IsWideSet, HoldsArrivals, HoldsPostings}
 use Rattle.x12_station_records.specs.declared.station_committing.NextRows.{NextRows}
 use Rattle.x12_station_records.specs.declared.station_numbers.NumbersRow.{NumbersRow}
 
@@ -46,6 +46,10 @@ IsSetNumber v = text_has_length 4 9 (bytes_in v) ≡ true
 abbrev pub IsFate : Value → Type 0
 IsFate v = v ≡ Int (pos (fate_number (fate_numbered (number_in v))))
 
+-- a value says whether an agreement is lenient
+abbrev pub IsLenient : Value → Type 0
+IsLenient v = v ≡ Int (pos (lenient_number (lenient_numbered (number_in v))))
+
 -- there is one row, of all columns of these numbers, of which the last one can be written
 pub record AreLastNumbers (n : NumbersRow) (rows : List Row) : Type 0 where
   pub row : IsOneRow (whole (with_id numbers_row (1, n))) rows
@@ -53,14 +57,15 @@ pub record AreLastNumbers (n : NumbersRow) (rows : List Row) : Type 0 where
   pub parties : AreWideParties n.owner
   pub book : CanBeUsed n.book
 
--- a row of a partner, GS01, ST01, its own number, which is above the last, and that it isn't lenient
+-- a row of a partner, GS01, ST01, whether the agreement is lenient, and its own number, which is above
+-- the last
 pub record IsPair (last at : ℕ) (r : Row) : Type 0 where
   pub above : last < at
-  pub at_is : column r 3 ≡ Int (pos at)
-  pub strict : column r 4 ≡ Int (pos 0)
+  pub at_is : column r 4 ≡ Int (pos at)
   pub partner : IsParty (column r 0)
   pub functional : length (bytes_in (column r 1)) ≡ 2
   pub set : length (bytes_in (column r 2)) ≡ 3
+  pub lenient : IsLenient (column r 3)
 
 -- the numbers of pairs rise, from above the first to the second
 abbrev pub ArePairs : ℕ → ℕ → List Row → Type 0

@@ -5,6 +5,7 @@ use Rattle.sql_rows.specs.Keyed.{RisesFrom}
 use Rattle.x12_acks.specs.Accepted.{AcceptedSet}
 use Rattle.x12_acks.specs.Submission.{TransactionSetKey}
 use Rattle.x12_envelopes.specs.declared.party.Party.{Party}
+use Rattle.x12_judge.specs.Agreement.{TradingAgreement}
 use Rattle.x12_numbers.specs.Book.{Numbers}
 use Rattle.x12_inbound.specs.Filing.{FiledInterchange}
 use Rattle.x12_outbound.specs.Entry.{GroupRow, SetRow}
@@ -32,11 +33,9 @@ Enters at from to old new =
 abbrev pub withdrawn : Party → Stored → Stored
 withdrawn partner s = record s { agreements = of_others partner s.agreements }
 
--- a partner's agreement of these pairs, behind the others
-abbrev pub with_pairs : Party → List (List ℕ × List ℕ) → Stored → Stored
-with_pairs partner pairs s = record s {
-  agreements = s.agreements ++ record { partner = partner; pairs = pairs } ∷ [];
-}
+-- an agreement with these pairs in place of its own, behind the others
+abbrev pub with_pairs : TradingAgreement → List (List ℕ × List ℕ) → Stored → Stored
+with_pairs a pairs s = record s { agreements = s.agreements ++ record a { pairs = pairs } ∷ [] }
 
 -- a submission more, without its transaction sets
 abbrev pub with_submission : StoredSubmission → Stored → Stored

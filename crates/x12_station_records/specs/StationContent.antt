@@ -1,5 +1,6 @@
 -- What the tables of a station's records stand for, and what holds between the calls.
-use Rattle.std.specs.Prelude.{if◌then◌else◌, ◌≡◌, ◌==◌, ℕ, false, List, [], ◌∷◌, map, IsTrue, Option, Some, None}
+use Rattle.std.specs.Prelude.{if◌then◌else◌, ◌≡◌, ◌==◌, ◌&&◌, ℕ, Bool, false, List, [], ◌∷◌, map, IsTrue, Option, Some, None}
+use Rattle.std.specs.Bool.{beq}
 use Rattle.sqlite.specs.declared.types.Value.{Value}
 use Rattle.sqlite.specs.declared.types.Value.TheVariants.{Blob}
 use Rattle.sqlite.specs.Order.{Row, column}
@@ -9,7 +10,7 @@ use Rattle.sql_rows.specs.Keyed.{number_in, key_in, by_key}
 use Rattle.x12_acks.specs.Accepted.{AcceptedSet}
 use Rattle.x12_judge.specs.Agreement.{TradingAgreement, is_same_party}
 use Rattle.x12_outbound.specs.declared.fate.Fate.{Fate}
-use Rattle.x12_outbound.specs.declared.fate.Fate.TheVariants.{Pending, Accepted, Rejected}
+use Rattle.x12_outbound.specs.declared.fate.Fate.TheVariants.{Pending, Accepted, Noted, Rejected}
 use Rattle.x12_station.specs.Stored.{Stored, StoredSubmission, StoredSet, StoredArrival, IsSound}
 use Rattle.x12_tables.specs.First.{first_row}
 use Rattle.x12_tables.specs.OneRow.{whole}
@@ -20,10 +21,15 @@ use Rattle.x12_station_records.specs.StationTables.{AgreedPair}
 use Rattle.x12_station_records.specs.declared.station_committing.NextRows.{NextRows}
 
 -- Each row is its key, NULL in the key's own column, and the other columns.
+-- whether an agreement of this number is lenient
+abbrev pub lenient_numbered : ℕ → Bool
+lenient_numbered n = n == 1
+
 -- a pair of an agreement
 abbrev pub pair_in : Row → AgreedPair
 pair_in r = record {
   partner = party_in (bytes_in (column r 2));
+  lenient = lenient_numbered (number_in (column r 4));
   functional = bytes_in (column r 3);
   set = bytes_in (column r 5);
 }
@@ -39,7 +45,11 @@ submission_in r = record {
 
 -- the fate that a number stands for
 abbrev pub fate_numbered : ℕ → Fate
-fate_numbered n = if n == 0 then Pending else (if n == 1 then Accepted else Rejected)
+fate_numbered n =
+    if n == 0 then Pending
+    else (if n == 1 then Accepted
+    else (if n == 3 then Noted
+    else Rejected))
 
 -- a transaction set of a submission
 abbrev pub set_in : Row → StoredSet
@@ -89,14 +99,25 @@ posting_in r = record {
 abbrev pub kept_numbers_in : Row → KeptNumbers
 kept_numbers_in r = numbers_shown (whole r)
 
--- a pair is the first one of the first agreement, if that is with its partner; if not, it is in front
--- as an agreement of its own
+-- an agreement of one pair, and one with a pair more in front
+abbrev pub agreement_of : AgreedPair → TradingAgreement
+agreement_of p = record {
+  partner = p.partner;
+  lenient = p.lenient;
+  pairs = (p.functional, p.set) ∷ [];
+}
+
+abbrev pub with_first : AgreedPair → TradingAgreement → TradingAgreement
+with_first p a = record a { pairs = (p.functional, p.set) ∷ a.pairs }
+
+-- a pair is the first one of the first agreement, if that is with its partner and as lenient; if not,
+-- it is in front as an agreement of its own
 abbrev pub pair_joined : AgreedPair → List TradingAgreement → List TradingAgreement
-pair_joined p [] = record { partner = p.partner; pairs = (p.functional, p.set) ∷ [] } ∷ []
+pair_joined p [] = agreement_of p ∷ []
 pair_joined p (a ∷ as1) =
-    if is_same_party p.partner a.partner
-    then record { partner = a.partner; pairs = (p.functional, p.set) ∷ a.pairs } ∷ as1
-    else record { partner = p.partner; pairs = (p.functional, p.set) ∷ [] } ∷ a ∷ as1
+    if is_same_party p.partner a.partner && beq p.lenient a.lenient
+    then with_first p a ∷ as1
+    else agreement_of p ∷ a ∷ as1
 
 -- the agreements of these pairs, where pairs of one partner stand side by side
 abbrev pub agreements_of : List AgreedPair → List TradingAgreement

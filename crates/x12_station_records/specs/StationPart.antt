@@ -4,7 +4,6 @@ use Rattle.sqlite.specs.State.{State, HasCleanDisk, KeepsCommit, Survives}
 use Rattle.sql_rows.specs.Kept.{Wrote}
 use Rattle.x12_acks.specs.Accepted.{AcceptedSet}
 use Rattle.x12_acks.specs.Submission.{TransactionSetKey}
-use Rattle.x12_envelopes.specs.declared.party.Party.{Party}
 use Rattle.x12_inbound.specs.Arrival.{Filing}
 use Rattle.x12_judge.specs.Agreement.{TradingAgreement}
 use Rattle.x12_outbound.specs.Entry.{InterchangeRow}
@@ -65,19 +64,19 @@ FilesAll seq k settled from to old new = (next : ℕ) (s : Stored) → HasNextPo
 abbrev pub is_same_pair : List ℕ × List ℕ → List ℕ × List ℕ → Bool
 is_same_pair p q = bytes_eq p.0 q.0 && bytes_eq p.1 q.1
 
--- What the tables hold of a partner's last agreement is these pairs, each once, and then also this
--- one; the first number was the next, and the second one is.
+-- What the tables hold of the last agreement is these pairs, each once, and then also this one; the
+-- first number was the next, and the second one is.
 abbrev pub AddsPair :
-    Party → List (List ℕ × List ℕ) → List ℕ × List ℕ → ℕ → ℕ → State → State → Type 0
-AddsPair partner before pair from to old new =
-    (s : Stored) → HasTables from old.now (with_pairs partner (each_once before) s)
-    → HasTables to new.now (with_pairs partner (each_once (before ++ pair ∷ [])) s)
+    TradingAgreement → List (List ℕ × List ℕ) → List ℕ × List ℕ → ℕ → ℕ → State → State → Type 0
+AddsPair a before pair from to old new =
+    (s : Stored) → HasTables from old.now (with_pairs a (each_once before) s)
+    → HasTables to new.now (with_pairs a (each_once (before ++ pair ∷ [])) s)
 
--- What the tables hold of a partner's last agreement is no pair, and then these, each once.
-abbrev pub AddsPairs : Party → ℕ → List (List ℕ × List ℕ) → ℕ → State → State → Type 0
-AddsPairs partner from pairs to old new =
-    (s : Stored) → HasTables from old.now (with_pairs partner [] s)
-    → HasTables to new.now (with_pairs partner (each_once pairs) s)
+-- What the tables hold of the last agreement is no pair, and then these, each once.
+abbrev pub AddsPairs : TradingAgreement → ℕ → List (List ℕ × List ℕ) → ℕ → State → State → Type 0
+AddsPairs a from pairs to old new =
+    (s : Stored) → HasTables from old.now (with_pairs a [] s)
+    → HasTables to new.now (with_pairs a (each_once pairs) s)
 
 -- What the tables hold has this agreement in place of its partner's.
 abbrev pub AgreesAll : TradingAgreement → ℕ → ℕ → State → State → Type 0

@@ -15,7 +15,7 @@ abbrev pub numbers_text : List ℕ
 numbers_text = codes "CREATE TABLE numbers (one INTEGER PRIMARY KEY, version INTEGER NOT NULL, party BLOB NOT NULL, hub BLOB NOT NULL, other BLOB, icn INTEGER NOT NULL, gcn INTEGER NOT NULL, seq INTEGER NOT NULL, handed INTEGER NOT NULL, noted INTEGER NOT NULL, era INTEGER NOT NULL) STRICT"
 
 -- each pair of GS01 and ST01 that a partner (its qualifier and its identifier, 17 bytes) may send;
--- `at` is the number of the row, and `lenient` is 0 in this version
+-- `at` is the number of the row, and `lenient` is 1 where errors in elements alone are noted, else 0
 abbrev pub agreement_text : List ℕ
 agreement_text = codes "CREATE TABLE agreement (at INTEGER PRIMARY KEY, partner BLOB NOT NULL, functional BLOB NOT NULL, lenient INTEGER NOT NULL, setid BLOB NOT NULL, UNIQUE (partner, functional, setid)) STRICT"
 
@@ -25,7 +25,7 @@ abbrev pub outbound_text : List ℕ
 outbound_text = codes "CREATE TABLE outbound (icn INTEGER PRIMARY KEY, seq INTEGER NOT NULL, partner BLOB NOT NULL, bytes BLOB NOT NULL) STRICT"
 
 -- each transaction set of a submission: the place of its group and its own, GS06 and GS01 of the
--- group, its number (ST02), and its fate (0 pending, 1 accepted, 2 rejected)
+-- group, its number (ST02), and its fate (0 pending, 1 accepted, 2 rejected, 3 noted)
 abbrev pub outset_text : List ℕ
 outset_text = codes "CREATE TABLE outset (at INTEGER PRIMARY KEY, icn INTEGER NOT NULL REFERENCES outbound (icn), grp INTEGER NOT NULL, place INTEGER NOT NULL, gcn INTEGER NOT NULL, functional BLOB NOT NULL, number BLOB NOT NULL, fate INTEGER NOT NULL, UNIQUE (icn, grp, place)) STRICT"
 

@@ -1,5 +1,5 @@
 -- What the tables of a station's records hold.
-use Rattle.std.specs.Prelude.{◌≡◌, ◌<◌, ◌≤◌, ◌^◌, ℕ, pos, true, length, List, [], ◌∷◌, map, flat_map, Option, Some, option_to_list, AllPairs, None}
+use Rattle.std.specs.Prelude.{◌≡◌, ◌<◌, ◌≤◌, ◌^◌, ℕ, pos, Bool, true, false, length, List, [], ◌∷◌, map, flat_map, Option, Some, option_to_list, AllPairs, None}
 use Rattle.std.specs.List.{AllByRecursion, enumerate_from}
 use Rattle.std.specs.List.Sorted.{IsPermutation}
 use Rattle.sqlite.specs.declared.types.Value.{Value}
@@ -20,19 +20,19 @@ use Rattle.x12_tables.specs.Party.{bytes_of_party, IsWideParty}
 use Rattle.x12_station_records.specs.StationNumbers.{KeptNumbers, numbers_view, numbers_kept_of}
 use Rattle.x12_station_records.specs.StationSchema.{station_schema}
 use Rattle.x12_station_records.specs.declared.station_numbers.NumbersRow.{NumbersRow}
-use Rattle.x12_outbound.specs.declared.fate.Fate.TheVariants.{Pending, Accepted, Rejected}
+use Rattle.x12_outbound.specs.declared.fate.Fate.TheVariants.{Pending, Accepted, Noted, Rejected}
 
 -- Each row is its key, NULL in the key's own column, and the other columns.
 abbrev pub other_value : Option Party → Value
 other_value None = Null
 other_value (Some party) = Blob (bytes_of_party party)
 
--- version 1 of the tables, whose the records are, the last control numbers, the last number of a
+-- version 2 of the tables, whose the records are, the last control numbers, the last number of a
 -- submission or first arrival, how many postings were handed over, and up to which numbers an arrival
 -- is read as before
 abbrev pub numbers_row : NumbersRow → Row
 numbers_row n =
-    Null ∷ Int (pos 1) ∷ Blob (bytes_of_party n.owner.party) ∷ Blob (bytes_of_party n.owner.hub)
+    Null ∷ Int (pos 2) ∷ Blob (bytes_of_party n.owner.party) ∷ Blob (bytes_of_party n.owner.hub)
     ∷ other_value n.owner.other ∷ Int (pos n.book.interchange) ∷ Int (pos n.book.group)
     ∷ Int (pos n.seq) ∷ Int (pos n.handed) ∷ Int (pos n.owner.noted) ∷ Int (pos n.owner.era) ∷ []
 
@@ -40,22 +40,34 @@ numbers_row n =
 abbrev pub AreWideParties : Owner → Type 0
 AreWideParties o = AllByRecursion IsWideParty (o.party ∷ o.hub ∷ option_to_list o.other)
 
--- a pair of an agreement: its partner, GS01 and ST01; none is lenient
+-- a pair of an agreement: its partner, whether the agreement is lenient, GS01 and ST01
 pub record AgreedPair : Type 0 where
   pub partner : Party
+  pub lenient : Bool
   pub functional : List ℕ
   pub set : List ℕ
 
 -- the pairs of agreements, in their order
-abbrev pub pair_of : Party → List ℕ × List ℕ → AgreedPair
-pair_of partner p = record { partner = partner; functional = p.0; set = p.1 }
+abbrev pub pair_of : Party → Bool → List ℕ × List ℕ → AgreedPair
+pair_of partner lenient p = record {
+  partner = partner;
+  lenient = lenient;
+  functional = p.0;
+  set = p.1;
+}
 
 abbrev pub agreed_pairs : List TradingAgreement → List AgreedPair
-agreed_pairs agreements = flat_map (λ a. map (pair_of a.partner) a.pairs) agreements
+agreed_pairs agreements = flat_map (λ a. map (pair_of a.partner a.lenient) a.pairs) agreements
+
+-- 1 where an agreement is lenient, 0 where it is strict
+abbrev pub lenient_number : Bool → ℕ
+lenient_number false = 0
+lenient_number true = 1
 
 abbrev pub pair_row : AgreedPair → Row
 pair_row p =
-    Null ∷ Blob (bytes_of_party p.partner) ∷ Blob p.functional ∷ Int (pos 0) ∷ Blob p.set ∷ []
+    Null ∷ Blob (bytes_of_party p.partner) ∷ Blob p.functional
+    ∷ Int (pos (lenient_number p.lenient)) ∷ Blob p.set ∷ []
 
 -- a submission, under its control number
 abbrev pub submission_row : StoredSubmission → Row
@@ -69,6 +81,7 @@ abbrev pub fate_number : Fate → ℕ
 fate_number Pending = 0
 fate_number Accepted = 1
 fate_number Rejected = 2
+fate_number Noted = 3
 
 -- a transaction set of a submission
 abbrev pub row_of_set : StoredSet → Row

@@ -7,18 +7,23 @@ use Rattle.sqlite.specs.Effect.{Database}
 use Rattle.sqlite.specs.Order.{Row, column}
 use Rattle.sqlite.specs.State.{State}
 use Rattle.sql_rows.specs.Keyed.{number_in}
+use Rattle.sqlite_disk.specs.Disk.{MoreFaults}
+use Rattle.x12_envelopes.specs.declared.party.Party.{Party}
 use Rattle.x12_numbers.specs.Book.{Numbers}
 use Rattle.x12_numbers.specs.declared.book.TheConstants.{MAX_CONTROL_NUMBER}
 use Rattle.x12_station.specs.Stored.{Origin, IsSound}
 use Rattle.x12_tables.specs.Adopt.{IsLong, IsAtRest}
-use Rattle.x12_tables.specs.OneRow.{IsFirstVersion}
+use Rattle.x12_tables.specs.OneRow.{IsOfVersion}
 use Rattle.x12_tables.specs.Party.{IsParty, bytes_in}
-use Rattle.x12_station_records.specs.StationAdopt.{IsSetNumber, IsFate, IsNumber, AreOfOne, set_read, AreOfAll}
+use Rattle.x12_tables.specs.declared.fault.RecordsFault.{RecordsFault}
+use Rattle.x12_tables.specs.declared.fault.RecordsFault.TheVariants.{Memory, OldVersion, OtherParty}
+use Rattle.x12_station_records.specs.StationAdopt.{IsLenient, IsSetNumber, IsFate, IsNumber, AreOfOne, set_read, AreOfAll}
 use Rattle.x12_station_records.specs.StationAgreed.{AreKept, pair_shown}
 use Rattle.x12_station_records.specs.StationContent.{agreements_of, content_of}
 use Rattle.x12_station_records.specs.StationGroups.{StandBehind, no_set, set_shown}
 use Rattle.x12_station_records.specs.StationNumbers.{numbers_kept_of, KeptNumbers}
 use Rattle.x12_station_records.specs.StationPlan.{HoldsRows}
+use Rattle.x12_station_records.specs.StationSchema.{station_schema}
 use Rattle.x12_station_records.specs.declared.station_committing.NextRows.{NextRows}
 
 -- a value is a control number that can be used, or 0
@@ -41,15 +46,16 @@ pub record IsNumbersRow (r : Row) : Type 0 where
   pub seq : (n : ℕ) × (column r 7 ≡ Int (pos n)) × (n < 2 ^ 63)
   pub handed : IsLong (column r 8)
 
--- there is one such row, of version 1
+-- there is one such row, of version 2
 abbrev pub IsOneNumbersRow : List Row → Type 0
-IsOneNumbersRow rows = IsFirstVersion rows × AllByRecursion IsNumbersRow rows
+IsOneNumbersRow rows = IsOfVersion 2 rows × AllByRecursion IsNumbersRow rows
 
--- a row of a partner, GS01 and ST01 has a party and codes of their widths
+-- a row of a partner, GS01, ST01 and whether the agreement is lenient has values of their widths
 pub record HasPair (r : Row) : Type 0 where
   pub partner : IsParty (column r 0)
   pub functional : length (bytes_in (column r 1)) ≡ 2
   pub set : length (bytes_in (column r 2)) ≡ 3
+  pub lenient : IsLenient (column r 3)
 
 -- such rows are those of agreements, one for a partner and each pair once
 pub record ArePairsKept (rows : List Row) : Type 0 where
@@ -144,9 +150,37 @@ HoldsInTurn last seqs db = HoldsStation db × ((content_of db.trees).seq ≡ las
 abbrev pub HoldsHanded : ℕ → Database → Type 0
 HoldsHanded handed db = HoldsStation db × ((content_of db.trees).handed ≡ handed)
 
+-- The tables are a station's, of an older version: their one row says a number from 1 below 2.
+pub record HoldsOlder (db : Database) : Type 0 where
+  pub schema : db.schema ≡ station_schema
+  pub row : Row
+  pub one : db.trees 0 ≡ row ∷ []
+  pub version : ℕ
+  pub version_is : column row 2 ≡ Int (pos version)
+  pub older : (0 < version) × (version < 2)
+
+-- such tables were left in a database that is open, in no transaction, and without a limit of steps
+pub record WereLeftOlder (s : State) : Type 0 where
+  pub ready : IsAtRest s
+  pub outside : s.in_transaction ≡ false
+  pub holds : HoldsOlder s.now
+
 -- a station left sound records of this origin in a database that is open, in no transaction, and
 -- without a limit of steps
 pub record WereLeftByStation (o : Origin) (s : State) : Type 0 where
   pub ready : IsAtRest s
   pub outside : s.in_transaction ≡ false
   pub holds : HoldsStationOf o s.now
+
+-- What a refusal to take records over tells is so: they are another's, or of an older version.
+pub record TellsRightly (o : Origin) (db : Database) (fault : RecordsFault) : Type 0 where
+  pub other : (found wanted : Party) → fault ≡ OtherParty found wanted
+      → (content_of db.trees).origin ≢ o
+  pub older : fault ≡ OldVersion → HoldsOlder db
+
+-- Why what was left is refused: memory was missing, or the device failed in the call. Of an older
+-- version that is told first, wherever it was read.
+pub record RefusesLeft (o : Origin) (fault : RecordsFault) (old new : State) : Type 0 where
+  pub own : WereLeftByStation o old → (fault ≡ Memory) ⊎ MoreFaults old.faults new.faults
+  pub older : WereLeftOlder old
+      → (fault ≡ OldVersion) ⊎ (fault ≡ Memory) ⊎ MoreFaults old.faults new.faults

@@ -1,14 +1,13 @@
 //! A station's records in a database that holds their tables.
 
-ghost use Rattle.std.specs.Prelude.{◌≡◌, ◌≢◌, [], Err, IfOk, map, ◌⊎◌, IfErr};
-ghost use Rattle.sqlite_disk.specs.Disk.{MoreFaults};
+ghost use Rattle.std.specs.Prelude.{◌≡◌, ◌≢◌, [], Err, IfOk, map, IfErr, IsErr};
 ghost use Rattle.sqlite.specs.Held.{state};
 ghost use Rattle.sqlite.specs.State.{HasCleanDisk, Shown};
 ghost use Rattle.sql_rows.specs.Query.{IsQuery};
 ghost use Rattle.x12_outbound.specs.Hubs.{hubs_of};
 ghost use Rattle.x12_station.specs.Stored.{origin_of};
-ghost use Rattle.x12_tables.specs.Adopt.{Finds, ObeysSchema, Takes};
-ghost use Rattle.x12_tables.specs.Fault.{RefusesOthers, TellsFailure};
+ghost use Rattle.x12_tables.specs.Adopt.{Finds, ObeysSchema, Takes, RefusesOlder};
+ghost use Rattle.x12_tables.specs.Fault.{RefusesOthers, TellsFailure, fault_of_rows};
 ghost use Rattle.x12_tables.specs.declared.fault.RecordsFault.{RecordsFault};
 ghost use Rattle.x12_tables.specs.declared.fault.TableFault.{TableFault};
 ghost use Rattle.x12_station_records.specs.StationAdopt.{FindsNumbers, FindsOwn, FindsAgreed};
@@ -21,7 +20,7 @@ ghost use Rattle.x12_station_records.specs.StationSchema.{station_schema};
 ghost use Rattle.x12_station_records.specs.StationTaken.{HoldsStation, HoldsStationOf};
 ghost use Rattle.x12_station_records.specs.StationTaken.{HoldsStationBy, HoldsBooked};
 ghost use Rattle.x12_station_records.specs.StationTaken.{HoldsSubmitted, HoldsInTurn, HoldsHanded};
-ghost use Rattle.x12_station_records.specs.StationTaken.{WereLeftByStation};
+ghost use Rattle.x12_station_records.specs.StationTaken.{HoldsOlder, WereLeftOlder, RefusesLeft};
 
 use crate::schema::is_station_schema;
 use crate::station_agreements::next_pair;
@@ -49,6 +48,7 @@ fn look<S: Alter>(conn: &mut Connection<S>, sql: &str) -> Result<Vec<Row>, Table
         (state S.Store conn.old) (state S.Store conn.new) rows.items) }
     ensures fails { HasCleanDisk (state S.Store conn.new) → conn.old.schema ≡ station_schema →
         IfErr result (TellsFailure sql.now (state S.Store conn.old) (state S.Store conn.new)) }
+    ensures known { result ≢ Err TableFault.OldVersion }
 {
     if !is_station_schema(conn.schema()) {
         return Err(TableFault::Store);
@@ -64,6 +64,8 @@ fn find_numbers<S: Alter>(conn: &mut Connection<S>) -> Result<NumbersRow, TableF
     ensures finds { Finds FindsNumbers result (state S.Store conn.old) (state S.Store conn.new) }
     ensures taken { Takes HoldsStation TableFault.Memory result
         (state S.Store conn.old) (state S.Store conn.new) }
+    ensures older { RefusesOlder HoldsOlder TableFault.OldVersion TableFault.Memory result
+        (state S.Store conn.old) (state S.Store conn.new) }
 {
     let rows = look(conn, NUMBERS)?;
     numbers_in_rows(&rows)
@@ -77,7 +79,7 @@ fn find_agreed<S: Alter>(conn: &mut Connection<S>) -> Result<u64, TableFault>
 {
     let rows = look(
         conn,
-        "SELECT partner, functional, setid, at, lenient FROM agreement ORDER BY at",
+        "SELECT partner, functional, setid, lenient, at FROM agreement ORDER BY at",
     )?;
     next_pair(*rows.allocator(), &rows)
 }
@@ -215,10 +217,22 @@ fn find_own<S: Alter>(
         ≡ origin_of party.now (hubs_of hubs.now)) result (state S.Store conn.new) }
     ensures taken { Takes (HoldsStationOf (origin_of party.now (hubs_of hubs.now))) RecordsFault.Memory result
         (state S.Store conn.old) (state S.Store conn.new) }
+    ensures older { RefusesOlder HoldsOlder RecordsFault.OldVersion RecordsFault.Memory result
+        (state S.Store conn.old) (state S.Store conn.new) }
 {
     let numbers = find_numbers(conn)?;
     test_owner(&numbers.owner, party, hubs)?;
     Ok(numbers)
+}
+
+/// The fault of the tables beside the numbers, whose version is known.
+fn rows_fault(fault: TableFault) -> RecordsFault
+    ensures { result ≡ fault_of_rows fault }
+{
+    match fault {
+        TableFault::Memory => RecordsFault::Memory,
+        _ => RecordsFault::Store,
+    }
 }
 
 /// Tests all six tables; answers the numbers of the next rows.
@@ -233,9 +247,14 @@ fn find_records<S: Alter>(
         ≡ origin_of party.now (hubs_of hubs.now)) result (state S.Store conn.new) }
     ensures taken { Takes (HoldsStationOf (origin_of party.now (hubs_of hubs.now))) RecordsFault.Memory result
         (state S.Store conn.old) (state S.Store conn.new) }
+    ensures older { RefusesOlder HoldsOlder RecordsFault.OldVersion RecordsFault.Memory result
+        (state S.Store conn.old) (state S.Store conn.new) }
 {
     let numbers = find_own(conn, party, hubs)?;
-    Ok(find_rows(conn, &numbers)?)
+    match find_rows(conn, &numbers) {
+        Ok(next) => Ok(next),
+        Err(fault) => Err(rows_fault(fault)),
+    }
 }
 
 /// Finds the records of the station of this party at these hubs in a database with no open
@@ -252,9 +271,12 @@ pub(crate) fn adopt_station<S: Alter>(
         ≡ origin_of party.now (hubs_of hubs.now)) result (state S.Store conn.new) }
     ensures others { conn.old.schema ≢ station_schema → result ≡ Err RecordsFault.NotOurs }
     ensures taken { HasCleanDisk (state S.Store conn.new) →
-        WereLeftByStation (origin_of party.now (hubs_of hubs.now)) (state S.Store conn.old) →
-        IfErr result (λ e. (e ≡ RecordsFault.Memory)
-        ⊎ MoreFaults (state S.Store conn.old).faults (state S.Store conn.new).faults) }
+        IfErr result (λ e. RefusesLeft (origin_of party.now (hubs_of hubs.now)) e
+        (state S.Store conn.old) (state S.Store conn.new)) }
+    ensures older { HasCleanDisk (state S.Store conn.new) →
+        WereLeftOlder (state S.Store conn.old) → IsErr result }
+    ensures only { HasCleanDisk (state S.Store conn.new) →
+        result ≡ Err RecordsFault.OldVersion → HoldsOlder (state S.Store conn.old).now }
 {
     if !is_station_schema(conn.schema()) {
         return Err(RecordsFault::NotOurs);

@@ -1,6 +1,7 @@
 //! The table of a station's agreements.
 
-ghost use Rattle.std.specs.Prelude.{◌≡◌, ◌<◌, ◌^◌, ◌++◌, [], ◌∷◌, OnOk, map, IfOk, ◌+◌, ℕ};
+ghost use Rattle.std.specs.Prelude.{◌≡◌, ◌<◌, ◌^◌, ◌++◌, [], ◌∷◌, OnOk, map, IfOk, ◌+◌, ℕ, ◌&&◌};
+ghost use Rattle.std.specs.Bool.{beq};
 ghost use Rattle.std.specs.List.{list_any};
 ghost use Rattle.sqlite.specs.Held.{state};
 ghost use Rattle.sqlite.specs.Order.{column};
@@ -23,7 +24,7 @@ ghost use Rattle.x12_station_records.specs.StationRead.{StationAnswers};
 ghost use Rattle.x12_station_records.specs.StationTables.{pair_of};
 ghost use Rattle.x12_station_records.specs.StationTaken.{HasPair, ArePairsKept};
 
-use crate::values::{code_in, test_party, test_place};
+use crate::values::{code_in, lenient_in_row, lenient_value, test_party};
 use sql_rows::run;
 use sqlite::types::ValueRef;
 use sqlite::{Alter, Connection, Error, Row, Transaction};
@@ -50,29 +51,31 @@ fn withdraw<S: Alter>(tx: &mut Transaction<'_, S>, partner: &Party) -> Result<()
     )
 }
 
-/// Adds a pair to the last agreement, which is this partner's, as the row of this number.
+/// Adds a pair to this agreement, the last one, as the row of this number.
 fn add_pair<S: Alter>(
     tx: &mut Transaction<'_, S>,
     at: u64,
-    partner: &Party,
+    agreement: &Agreement,
     pair: Pair,
 ) -> Result<(), Error>
     ensures same_reference { tx.new.conn.ghost_name ≡ tx.old.conn.ghost_name }
-    ensures part { (pairs : _) → IsPart (Enters at (with_pairs partner.now pairs)
-        (with_pairs partner.now (pairs ++ pair ∷ []))) result
+    ensures part { (pairs : _) → IsPart (Enters at (with_pairs (agreement_view agreement.now) pairs)
+        (with_pairs (agreement_view agreement.now) (pairs ++ pair ∷ []))) result
         (state S.Store tx.old.conn.now) (state S.Store tx.new.conn.now) }
     ensures few { OnOk result (at < 2 ^ 63) }
 {
     let at = integer(at)?;
-    let bytes = party_bytes(partner);
+    let bytes = party_bytes(&agreement.partner);
+    let lenient = lenient_value(agreement.lenient);
     let (functional, set) = pair;
     run(
         tx,
-        "INSERT INTO agreement (at, partner, functional, lenient, setid) VALUES (?1, ?2, ?3, 0, ?4)",
+        "INSERT INTO agreement (at, partner, functional, lenient, setid) VALUES (?1, ?2, ?3, ?4, ?5)",
         &[
             ValueRef::Int(at),
             ValueRef::Blob(&bytes),
             ValueRef::Blob(&functional),
+            ValueRef::Int(lenient),
             ValueRef::Blob(&set),
         ],
     )
@@ -85,41 +88,41 @@ pub(crate) fn is_among(pair: Pair, pairs: &[Pair]) -> bool
     pairs.contains(&pair)
 }
 
-/// Adds a pair to the last agreement, which is this partner's, unless it is among those before; the
-/// number of the next row.
+/// Adds a pair to this agreement, the last one, unless it is among those before; the number of the
+/// next row.
 fn add_once<S: Alter>(
     tx: &mut Transaction<'_, S>,
     at: u64,
-    partner: &Party,
+    agreement: &Agreement,
     before: &[Pair],
     pair: Pair,
 ) -> Result<u64, Error>
     ensures same_reference { tx.new.conn.ghost_name ≡ tx.old.conn.ghost_name }
-    ensures part { PartGoesOn (λ to. AddsPair partner.now before.now pair at to) result
-        (state S.Store tx.old.conn.now) (state S.Store tx.new.conn.now) }
+    ensures part { PartGoesOn (λ to. AddsPair (agreement_view agreement.now) before.now pair at to)
+        result (state S.Store tx.old.conn.now) (state S.Store tx.new.conn.now) }
 {
     if is_among(pair, before) {
         return Ok(at);
     }
-    add_pair(tx, at, partner, pair)?;
+    add_pair(tx, at, agreement, pair)?;
     Ok(at + 1)
 }
 
-/// Adds pairs, each once, to the last agreement, which is this partner's and has none; the number
-/// of the next row.
+/// Adds pairs, each once, to this agreement, the last one, of which no pair is written; the number of
+/// the next row.
 fn add_pairs<S: Alter>(
     tx: &mut Transaction<'_, S>,
     at: u64,
-    partner: &Party,
+    agreement: &Agreement,
     pairs: &[Pair],
 ) -> Result<u64, Error>
     ensures same_reference { tx.new.conn.ghost_name ≡ tx.old.conn.ghost_name }
-    ensures part { PartGoesOn (λ to. AddsPairs partner.now at pairs.now to) result
+    ensures part { PartGoesOn (λ to. AddsPairs (agreement_view agreement.now) at pairs.now to) result
         (state S.Store tx.old.conn.now) (state S.Store tx.new.conn.now) }
 {
     let mut next = at;
     for (i, pair) in pairs.iter().enumerate() {
-        next = add_once(tx, next, partner, &pairs[..i], *pair)?;
+        next = add_once(tx, next, agreement, &pairs[..i], *pair)?;
     }
     Ok(next)
 }
@@ -136,10 +139,10 @@ pub(crate) fn agree<S: Alter>(
         (state S.Store tx.old.conn.now) (state S.Store tx.new.conn.now) }
 {
     withdraw(tx, &agreement.partner)?;
-    add_pairs(tx, at, &agreement.partner, &agreement.pairs)
+    add_pairs(tx, at, agreement, &agreement.pairs)
 }
 
-/// The pair in a row of its partner, GS01 and ST01.
+/// The pair in a row of its partner, GS01, ST01 and whether its agreement is lenient.
 fn pair_in_row(row: &Row) -> Result<Pair, Error>
     ensures functional { IfOk result (λ pair. pair.0 ≡ bytes_in (column row.now 1)) }
     ensures set { IfOk result (λ pair. pair.1 ≡ bytes_in (column row.now 2)) }
@@ -170,26 +173,39 @@ fn has_agreement(agreements: &[Agreement], partner: &Party) -> bool
     false
 }
 
+/// Whether an agreement is with this partner, and as lenient.
+fn is_of(agreement: &Agreement, partner: &Party, lenient: bool) -> bool
+    ensures { result ≡ (is_same_party agreement.now.partner partner.now
+        && beq agreement.now.lenient lenient) }
+{
+    is_with(agreement, partner) && agreement.lenient == lenient
+}
+
 /// Puts an agreement of one pair behind the others. Its partner may have none yet.
 fn start_agreement(
     agreements: &mut Vec<Agreement>,
     alloc: Global,
     partner: Party,
+    lenient: bool,
     pair: Pair,
 ) -> Result<(), Error>
     requires { AreKept (map agreement_view agreements.old.items) }
     ensures started { OnOk result (map agreement_view agreements.new.items
-        ≡ map agreement_view agreements.old.items ++ of_one_pair partner pair ∷ []) }
+        ≡ map agreement_view agreements.old.items ++ of_one_pair partner lenient pair ∷ []) }
     ensures kept { OnOk result (AreKept (map agreement_view agreements.new.items)) }
     ensures taken { TakesRows (AreKept (map agreement_view agreements.old.items
-        ++ of_one_pair partner pair ∷ [])) (SqliteFailure OutOfMemory) result }
+        ++ of_one_pair partner lenient pair ∷ [])) (SqliteFailure OutOfMemory) result }
 {
     if has_agreement(agreements, &partner) {
         return Err(misplaced());
     }
     let mut pairs = Vec::new(alloc);
     pairs.push(pair)?;
-    agreements.push(Agreement { partner, pairs })?;
+    agreements.push(Agreement {
+        partner,
+        lenient,
+        pairs,
+    })?;
     Ok(())
 }
 
@@ -219,27 +235,29 @@ fn put_pair(
     agreements: &mut Vec<Agreement>,
     alloc: Global,
     partner: Party,
+    lenient: bool,
     pair: Pair,
 ) -> Result<(), Error>
     requires { AreKept (map agreement_view agreements.old.items) }
     ensures put { OnOk result ((ps : _) → map agreement_view agreements.old.items ≡ agreements_of ps →
-        map agreement_view agreements.new.items ≡ agreements_of (ps ++ pair_of partner pair ∷ [])) }
+        map agreement_view agreements.new.items
+        ≡ agreements_of (ps ++ pair_of partner lenient pair ∷ [])) }
     ensures kept { OnOk result (AreKept (map agreement_view agreements.new.items)) }
     ensures taken { TakesRows ((ps : _) × (map agreement_view agreements.old.items ≡ agreements_of ps)
-        × AreKept (agreements_of (ps ++ pair_of partner pair ∷ [])))
+        × AreKept (agreements_of (ps ++ pair_of partner lenient pair ∷ [])))
         (SqliteFailure OutOfMemory) result }
 {
     let Some(last) = agreements.pop() else {
-        return start_agreement(agreements, alloc, partner, pair);
+        return start_agreement(agreements, alloc, partner, lenient, pair);
     };
-    if is_with(&last, &partner) {
+    if is_of(&last, &partner, lenient) {
         return join_agreement(agreements, last, pair);
     }
     agreements.push(last)?;
-    start_agreement(agreements, alloc, partner, pair)
+    start_agreement(agreements, alloc, partner, lenient, pair)
 }
 
-/// The agreements of rows of a partner, GS01 and ST01.
+/// The agreements of rows of a partner, GS01, ST01 and whether the agreement is lenient.
 pub(crate) fn agreements_in_rows(alloc: Global, rows: &[Row]) -> Result<Vec<Agreement>, Error>
     ensures agreements { IfOk result (λ v. map agreement_view v.items
         ≡ agreements_of (map pair_shown rows.now)) }
@@ -250,7 +268,8 @@ pub(crate) fn agreements_in_rows(alloc: Global, rows: &[Row]) -> Result<Vec<Agre
     for row in rows {
         let partner = party_in_row(row, 0)?;
         let pair = pair_in_row(row)?;
-        put_pair(&mut agreements, alloc, partner, pair)?;
+        let lenient = lenient_in_row(row, 3)?;
+        put_pair(&mut agreements, alloc, partner, lenient, pair)?;
     }
     Ok(agreements)
 }
@@ -264,23 +283,23 @@ pub(crate) fn load_agreements<S: Alter>(conn: &mut Connection<S>) -> Result<Vec<
 {
     let rows = read(
         conn,
-        "SELECT partner, functional, setid FROM agreement ORDER BY at",
+        "SELECT partner, functional, setid, lenient FROM agreement ORDER BY at",
         &[],
     )?;
     agreements_in_rows(*rows.allocator(), &rows)
 }
 
-/// The number of a pair, in a row of its partner, GS01, ST01, that number, which is above the last,
-/// and 0: it isn't lenient.
+/// The number of a pair, in a row of its partner, GS01, ST01, whether its agreement is lenient, and that
+/// number, which is above the last.
 fn pair_number(row: &Row, last: u64) -> Result<u64, TableFault>
     ensures is { IfOk result (λ at. IsPair last at row.now) }
     ensures taken { TakesRows ((at : ℕ) × IsPair last at row.now) Memory result }
 {
-    let at = long_in(row, 3)?;
+    let at = long_in(row, 4)?;
     test_party(row, 0)?;
     let _functional: [u8; 2] = code_in(row, 1)?;
     let _set: [u8; 3] = code_in(row, 2)?;
-    test_place(row, 4, 0)?;
+    let _lenient = lenient_in_row(row, 3)?;
     if at <= last {
         return Err(TableFault::Store);
     }

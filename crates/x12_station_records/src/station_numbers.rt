@@ -1,6 +1,6 @@
 //! The row of a station's numbers.
 
-ghost use Rattle.std.specs.Prelude.{◌≡◌, ◌≤◌, ◌-◌, ◌^◌, pos, IfOk};
+ghost use Rattle.std.specs.Prelude.{◌≡◌, ◌≤◌, ◌-◌, ◌^◌, pos, Err, IfOk, IsErrAnd};
 ghost use Rattle.sqlite.specs.Held.{state};
 ghost use Rattle.sqlite.specs.Order.{column};
 ghost use Rattle.sqlite.specs.declared.error.Error.TheVariants.{SqliteFailure};
@@ -10,8 +10,10 @@ ghost use Rattle.sql_rows.specs.Kept.{IsPart};
 ghost use Rattle.x12_station.specs.Record.{owner_view};
 ghost use Rattle.x12_tables.specs.Adopt.{TakesRows};
 ghost use Rattle.x12_tables.specs.Change.{Always};
+ghost use Rattle.x12_tables.specs.Fault.{IsOldVersion};
+ghost use Rattle.x12_tables.specs.OneRow.{IsOfOlder};
 ghost use Rattle.x12_tables.specs.Party.{bytes_of_party};
-ghost use Rattle.x12_tables.specs.declared.fault.TableFault.TheVariants.{Memory};
+ghost use Rattle.x12_tables.specs.declared.fault.TableFault.TheVariants.{Memory, OldVersion};
 ghost use Rattle.x12_station_records.specs.StationAdopt.{AreLastNumbers};
 ghost use Rattle.x12_station_records.specs.StationChange.{Turns, with_last_numbers};
 ghost use Rattle.x12_station_records.specs.StationNumbers.{numbers_kept_of, numbers_view};
@@ -37,6 +39,9 @@ pub(crate) struct NumbersRow {
     pub(crate) seq: u64,
     pub(crate) handed: u64,
 }
+
+/// The version of a station's tables.
+const VERSION: u32 = 2;
 
 /// All columns of the row.
 pub(crate) const NUMBERS: &str =
@@ -104,12 +109,15 @@ fn book_in_row(row: &Row) -> Result<Book, Error>
     }
 }
 
-/// What the one row says.
+/// What the one row says; [`TableFault::OldVersion`] where it is one of an older version, whatever else
+/// is in it.
 pub(crate) fn numbers_in_rows(rows: &[Row]) -> Result<NumbersRow, TableFault>
     ensures are { IfOk result (λ n. AreLastNumbers n rows.now) }
     ensures taken { TakesRows (IsOneNumbersRow rows.now) Memory result }
+    ensures older { IsOfOlder 2 rows.now → IsErrAnd result IsOldVersion }
+    ensures only { result ≡ Err OldVersion → IsOfOlder 2 rows.now }
 {
-    let row = one_row(rows)?;
+    let row = one_row(rows, VERSION)?;
     let owner = owner_in_row(row)?;
     let book = book_in_row(row)?;
     let seq = long_in(row, 7)?;

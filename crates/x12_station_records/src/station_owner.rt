@@ -59,6 +59,7 @@ pub(crate) fn test_owner(owner: &Owner, party: &Party, hubs: &Hubs) -> Result<()
     ensures own { OnOk result (owner_view owner.now ≡ origin_of party.now (hubs_of hubs.now)) }
     ensures other { OnErr result
         (owner_view owner.now ≢ origin_of party.now (hubs_of hubs.now)) }
+    ensures known { result ≢ Err RecordsFault.OldVersion }
 {
     test_party(&owner.party, party)?;
     test_party(&owner.hub, &hubs.hub)?;

@@ -1,8 +1,7 @@
 //! Records of a station in SQLite tables.
 
 ghost use Rattle.std.specs.Prelude.{◌≡◌, ◌≢◌, ◌↔◌, ◌∷◌, IsTrue, IfOk, IfErr, IsErrAnd, MatchResult};
-ghost use Rattle.std.specs.Prelude.{option_to_list, ◌⊎◌};
-ghost use Rattle.sqlite_disk.specs.Disk.{MoreFaults};
+ghost use Rattle.std.specs.Prelude.{option_to_list};
 ghost use Rattle.sqlite.specs.Held.{state};
 ghost use Rattle.sqlite.specs.State.{HasCleanDisk, Survives};
 ghost use Rattle.sql_rows.specs.Kept.{Stays, MayBecome};
@@ -15,7 +14,8 @@ ghost use Rattle.x12_station_records.specs.StationAdopt.{AreFoundAtStation};
 ghost use Rattle.x12_station_records.specs.StationContent.{content_of, IsValid};
 ghost use Rattle.x12_station_records.specs.StationCreate.{NewRecords, new_records};
 ghost use Rattle.x12_station_records.specs.StationSchema.{station_schema};
-ghost use Rattle.x12_station_records.specs.StationTaken.{WereLeftByStation};
+ghost use Rattle.x12_station_records.specs.StationTaken.{WereLeftByStation, WereLeftOlder};
+ghost use Rattle.x12_station_records.specs.StationTaken.{TellsRightly, RefusesLeft};
 
 use crate::station_adopting::adopt_station;
 use crate::station_committing::{NextRows, commit};
@@ -92,10 +92,10 @@ impl<S: Alter> SqliteRecords<S> {
     /// written.
     ///
     /// A refusal gives the connection back: `NotOurs` where the tables aren't those of a station's
-    /// records or the row of their version is missing, `Store` where the database failed, a
-    /// transaction is open, or a row is out of form or order, `OtherParty` where they are another
-    /// station's or those at other hubs (tested before the other tables), `Memory` where memory was
-    /// missing.
+    /// records or the row of their version is missing, `OldVersion` where they are of version 1
+    /// (tested before all that they hold), `Store` where the database failed, a transaction is open,
+    /// or a row is out of form or order, `OtherParty` where they are another station's or those at
+    /// other hubs (tested before the other tables), `Memory` where memory was missing.
     ///
     /// Sound records of this station at this hub that were left in a store that is open, outside a
     /// transaction and without a limit of steps, are taken (`taken`): over a clean disk `Store` then
@@ -116,21 +116,22 @@ impl<S: Alter> SqliteRecords<S> {
             IsTrue (state S.Store conn).is_open) }
         ensures others { conn.schema ≢ station_schema →
             IsErrAnd result (λ e. e.1 ≡ RecordsFault.NotOurs) }
-        ensures other { IfErr result (λ e. (found wanted : Party) →
-            e.1 ≡ RecordsFault.OtherParty found wanted → HasCleanDisk (state S.Store e.0) →
-            (content_of (state S.Store conn).now.trees).origin
-            ≢ origin_of party (hub ∷ option_to_list other)) }
+        ensures other { IfErr result (λ e. HasCleanDisk (state S.Store e.0) →
+            TellsRightly (origin_of party (hub ∷ option_to_list other))
+            (state S.Store conn).now e.1) }
         ensures back { IfErr result (λ e. HasCleanDisk (state S.Store e.0) →
             Stays (state S.Store conn) (state S.Store e.0)) }
         ensures crash { MatchResult result
             (λ r. Survives (state S.Store conn) (state S.Store r.conn) (λ _. ⊥))
             (λ e. Survives (state S.Store conn) (state S.Store e.0) (λ _. ⊥)) }
-        // Without a failure; and what was left is refused only for want of memory or of the device.
-        ensures taken { MatchResult result (λ r. r.failed ≡ 0) (λ e.
-            HasCleanDisk (state S.Store e.0) →
-            WereLeftByStation (origin_of party (hub ∷ option_to_list other)) (state S.Store conn) →
-            (e.1 ≡ RecordsFault.Memory)
-            ⊎ MoreFaults (state S.Store conn).faults (state S.Store e.0).faults) }
+        // Without a failure, and nothing of an older version; and what was left is refused only for
+        // want of memory or of the device, or as one of an older version.
+        ensures taken { MatchResult result
+            (λ r. (r.failed ≡ 0) × (HasCleanDisk (state S.Store r.conn) →
+            WereLeftOlder (state S.Store conn) → ⊥))
+            (λ e. HasCleanDisk (state S.Store e.0) →
+            RefusesLeft (origin_of party (hub ∷ option_to_list other)) e.1
+            (state S.Store conn) (state S.Store e.0)) }
     {
         let mut conn = conn;
         let failed = 0;

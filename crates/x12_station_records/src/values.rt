@@ -13,11 +13,12 @@ ghost use Rattle.x12_envelopes.specs.Shape.{bytes_of_set_no};
 ghost use Rattle.x12_tables.specs.Adopt.{TakesRows};
 ghost use Rattle.x12_tables.specs.Party.{bytes_in, IsWideParty, IsParty};
 ghost use Rattle.x12_tables.specs.declared.fault.TableFault.TheVariants.{Memory};
-ghost use Rattle.x12_station_records.specs.StationAdopt.{IsFate, IsKeptPlace, IsSetNumber};
+ghost use Rattle.x12_station_records.specs.StationAdopt.{IsFate, IsKeptPlace, IsSetNumber, IsLenient};
 ghost use Rattle.x12_station_records.specs.StationAdopt.{IsNumber};
-ghost use Rattle.x12_station_records.specs.StationContent.{fate_numbered};
+ghost use Rattle.x12_station_records.specs.StationContent.{fate_numbered, lenient_numbered};
 ghost use Rattle.x12_station_records.specs.StationFinds.{asked_as};
 ghost use Rattle.x12_station_records.specs.StationTables.{other_value, reply_value, fate_number};
+ghost use Rattle.x12_station_records.specs.StationTables.{lenient_number};
 
 use sqlite::types::ValueRef;
 use sqlite::{Error, ErrorCode, Row};
@@ -80,7 +81,7 @@ pub(crate) fn key_asked(n: u64) -> i64
     }
 }
 
-/// A fate: 0 pending, 1 accepted, 2 rejected.
+/// A fate: 0 pending, 1 accepted, 2 rejected, 3 noted.
 pub(crate) fn fate_value(fate: Fate) -> i64
     ensures { result ≡ pos (fate_number fate) }
 {
@@ -88,6 +89,7 @@ pub(crate) fn fate_value(fate: Fate) -> i64
         Fate::Pending => 0,
         Fate::Accepted => 1,
         Fate::Rejected => 2,
+        Fate::Noted => 3,
     }
 }
 
@@ -101,7 +103,28 @@ pub(crate) fn fate_of(number: u64) -> Result<Fate, Error>
         0 => Ok(Fate::Pending),
         1 => Ok(Fate::Accepted),
         2 => Ok(Fate::Rejected),
+        3 => Ok(Fate::Noted),
         _ => Err(Error::IntegralValueOutOfRange(0)),
+    }
+}
+
+/// Whether an agreement is lenient: 1 where it is, else 0.
+pub(crate) fn lenient_value(lenient: bool) -> i64
+    ensures { result ≡ pos (lenient_number lenient) }
+{
+    if lenient { 1 } else { 0 }
+}
+
+/// Whether an agreement is lenient, by a column.
+pub(crate) fn lenient_in_row(row: &Row, at: usize) -> Result<bool, Error>
+    ensures is { IfOk result (λ lenient. lenient ≡ lenient_numbered (number_in (column row.now at))) }
+    ensures form { OnOk result (IsLenient (column row.now at)) }
+    ensures taken { TakesRows (IsLenient (column row.now at)) (SqliteFailure OutOfMemory) result }
+{
+    match long_in(row, at)? {
+        0 => Ok(false),
+        1 => Ok(true),
+        _ => Err(Error::IntegralValueOutOfRange(at)),
     }
 }
 

@@ -1,5 +1,5 @@
 -- What a call finds of a database that it only reads.
-use Rattle.std.specs.Prelude.{◌≡◌, ◌⊎◌, ◌<◌, ◌^◌, ℕ, pos, false, None, Result, IfOk, IfErr, IsTrue}
+use Rattle.std.specs.Prelude.{◌≡◌, ◌⊎◌, ◌<◌, ◌^◌, ℕ, pos, false, None, Result, Err, IfOk, IfErr, IsErrAnd, IsTrue}
 use Rattle.sqlite_disk.specs.Disk.{MoreFaults}
 use Rattle.sqlite.specs.declared.types.Value.{Value}
 use Rattle.sqlite.specs.declared.types.Value.TheVariants.{Int}
@@ -33,6 +33,15 @@ pub record Takes {A E : Type 0} (Such : Database → Type 0) (memory : E) (r : R
     (old new : State) : Type 0 where
   pub taken : HasCleanDisk new → IsAtRest old → Such old.now
       → IfErr r (λ e. (e ≡ memory) ⊎ MoreFaults old.faults new.faults)
+
+-- A call that refuses tables of an older version, over a clean disk: of no others does it say so; and
+-- where the store is ready and its tables are older, it says so, or memory was missing, or the device
+-- failed in the call.
+pub record RefusesOlder {A E : Type 0} (Older : Database → Type 0) (old_version memory : E)
+    (r : Result A E) (old new : State) : Type 0 where
+  pub only : HasCleanDisk new → r ≡ Err old_version → Older old.now
+  pub older : HasCleanDisk new → IsAtRest old → Older old.now
+      → IsErrAnd r (λ e. (e ≡ old_version) ⊎ (e ≡ memory) ⊎ MoreFaults old.faults new.faults)
 
 -- an error over what is such is want of memory
 abbrev pub TakesRows : {A E : Type 0} → Type 0 → E → Result A E → Type 0

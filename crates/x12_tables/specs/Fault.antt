@@ -1,14 +1,22 @@
 -- The fault that an error of the database, or of its tables, is.
-use Rattle.std.specs.Prelude.{◌≡◌, ℕ, List, [], Result, Err}
+use Rattle.std.specs.Prelude.{◌≡◌, ◌⊎◌, ℕ, List, [], Result, Err, codes}
 use Rattle.sqlite.specs.State.{State, HasCleanDisk, FailsToQuery}
 use Rattle.sqlite.specs.declared.error.Error.{Error}
 use Rattle.sqlite.specs.declared.error.Error.TheVariants.{SqliteFailure, IntegralValueOutOfRange}
 use Rattle.sqlite.specs.declared.error.ErrorCode.TheVariants.{OutOfMemory}
 use Rattle.x12_envelopes.specs.declared.party.Party.{Party}
 use Rattle.x12_tables.specs.declared.fault.RecordsFault.{RecordsFault}
-use Rattle.x12_tables.specs.declared.fault.RecordsFault.TheVariants.{Memory, Store, NotOurs, OtherParty}
+use Rattle.x12_tables.specs.declared.fault.RecordsFault.TheVariants.{Memory, Store, NotOurs, OldVersion, OtherParty}
 use Rattle.x12_tables.specs.declared.fault.TableFault.{TableFault}
 use Rattle.x12_tables.specs.declared.fault.TableFault.TheVariants as table
+
+-- the number of a refusal
+abbrev pub records_fault_number : RecordsFault → List ℕ
+records_fault_number NotOurs = codes "Q1"
+records_fault_number Store = codes "Q2"
+records_fault_number Memory = codes "Q3"
+records_fault_number OldVersion = codes "Q4"
+records_fault_number (OtherParty found wanted) = codes "Q5"
 
 abbrev pub fault_of_error : Error → RecordsFault
 fault_of_error (SqliteFailure OutOfMemory) = Memory
@@ -20,12 +28,22 @@ table_fault_of _ = table.Store
 
 abbrev pub fault_of_table : TableFault → RecordsFault
 fault_of_table table.NotOurs = NotOurs
+fault_of_table table.OldVersion = OldVersion
 fault_of_table table.Store = Store
 fault_of_table table.Memory = Memory
 
 abbrev pub error_of_table : TableFault → Error
 error_of_table table.Memory = SqliteFailure OutOfMemory
 error_of_table _ = IntegralValueOutOfRange 0
+
+-- a fault of the rows behind the one of the version
+abbrev pub fault_of_rows : TableFault → RecordsFault
+fault_of_rows table.Memory = Memory
+fault_of_rows _ = Store
+
+-- the tables are refused as those of an older version, or memory was missing
+abbrev pub IsOldVersion : TableFault → Type 0
+IsOldVersion fault = (fault ≡ table.OldVersion) ⊎ (fault ≡ table.Memory)
 
 -- where the refusal names two parties, the records aren't those that were asked for
 abbrev pub RefusesOthers : {A : Type 0} → Type 0 → Result A RecordsFault → State → Type 0

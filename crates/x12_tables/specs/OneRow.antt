@@ -1,5 +1,5 @@
 -- A table of one row, and what a query on all its columns shows.
-use Rattle.std.specs.Prelude.{◌≡◌, ◌+◌, ℕ, pos, List, [], ◌∷◌, drop}
+use Rattle.std.specs.Prelude.{◌≡◌, ◌<◌, ◌+◌, ℕ, pos, List, [], ◌∷◌, drop}
 use Rattle.sqlite.specs.declared.types.Value.TheVariants.{Int}
 use Rattle.sqlite.specs.Order.{Row, column}
 
@@ -17,7 +17,13 @@ abbrev pub IsOneRow : Row → List Row → Type 0
 IsOneRow vs (r ∷ []) = AreColumns r 0 vs
 IsOneRow vs _ = ⊥
 
--- there is one row, whose key and version are 1
-abbrev pub IsFirstVersion : List Row → Type 0
-IsFirstVersion (r ∷ []) = (column r 0 ≡ Int (pos 1)) × (column r 1 ≡ Int (pos 1))
-IsFirstVersion _ = ⊥
+-- there is one row, whose key is 1, and whose version is this one
+abbrev pub IsOfVersion : ℕ → List Row → Type 0
+IsOfVersion version (r ∷ []) =
+    (column r 0 ≡ Int (pos 1)) × (column r 1 ≡ Int (pos version))
+IsOfVersion version _ = ⊥
+
+-- there is one row, whose version is an older one than this: a number from 1 that is below it
+abbrev pub IsOfOlder : ℕ → List Row → Type 0
+IsOfOlder version (r ∷ []) = (n : ℕ) × (column r 1 ≡ Int (pos n)) × (0 < n) × (n < version)
+IsOfOlder version _ = ⊥

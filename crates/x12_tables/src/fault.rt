@@ -2,7 +2,7 @@
 
 ghost use Rattle.std.specs.Prelude.{◌≡◌};
 ghost use Rattle.x12_tables.specs.Fault.{fault_of_error, fault_of_table, table_fault_of};
-ghost use Rattle.x12_tables.specs.Fault.{error_of_table};
+ghost use Rattle.x12_tables.specs.Fault.{error_of_table, records_fault_number};
 ghost use Rattle.x12_tables.specs.declared.fault.TableFault.TheVariants.{Memory};
 
 use sqlite::{Error, ErrorCode};
@@ -15,16 +15,19 @@ use x12_envelopes::Party;
 /// Why records weren't made in a database, or weren't taken over from one.
 #[derive(Clone, Copy, Debug, PartialEq, Eq, Error)]
 pub enum RecordsFault {
-    /// The database isn't one for these records. Where records are made: it has a table, an index
+    /// Q1. The database isn't one for these records. Where records are made: it has a table, an index
     /// or a view. Where they are taken over: its tables aren't these records' tables, or the row of
-    /// their version is missing.
+    /// their version is missing, or has the number of no version up to this one.
     #[error("the database has other tables than these records: name another one")]
     NotOurs,
-    /// The database did not do what it was asked, a transaction was open, or a row is out of the
+    /// Q4. The records are of version 1, which an earlier release wrote. Nothing is wrong with them.
+    #[error("the records are of version 1: take the release that made them")]
+    OldVersion,
+    /// Q2. The database did not do what it was asked, a transaction was open, or a row is out of the
     /// form or the order of its table.
     #[error("the database failed, or holds a row out of form: see to the device, then try again")]
     Store,
-    /// The records are another's: they name another station or hub than was asked for. Nothing is
+    /// Q5. The records are another's: they name another station or hub than was asked for. Nothing is
     /// wrong with them.
     #[error("the records are of {}, not of {}: name the database of the second", Named(.found), Named(.wanted))]
     OtherParty {
@@ -34,9 +37,24 @@ pub enum RecordsFault {
         /// The party that was asked for in its place.
         wanted: Party,
     },
-    /// Memory was missing.
+    /// Q3. Memory was missing.
     #[error("memory was missing for the records: make the call again")]
     Memory,
+}
+
+impl RecordsFault {
+    /// The fault's number: `Q1` to `Q5`.
+    pub fn number(&self) -> &'static str
+        ensures { result.now ≡ records_fault_number self.now }
+    {
+        match self {
+            RecordsFault::NotOurs => "Q1",
+            RecordsFault::Store => "Q2",
+            RecordsFault::Memory => "Q3",
+            RecordsFault::OldVersion => "Q4",
+            RecordsFault::OtherParty { .. } => "Q5",
+        }
+    }
 }
 
 impl From<Error> for RecordsFault {
@@ -55,6 +73,8 @@ impl From<Error> for RecordsFault {
 pub enum TableFault {
     /// Other tables than those of the records, or no row of their version.
     NotOurs,
+    /// The tables of an older version.
+    OldVersion,
     /// The database failed, or a row is out of form or order.
     Store,
     /// Memory was missing.
@@ -86,6 +106,7 @@ impl From<TableFault> for RecordsFault {
     fn from(fault: TableFault) -> RecordsFault {
         match fault {
             TableFault::NotOurs => RecordsFault::NotOurs,
+            TableFault::OldVersion => RecordsFault::OldVersion,
             TableFault::Store => RecordsFault::Store,
             TableFault::Memory => RecordsFault::Memory,
         }

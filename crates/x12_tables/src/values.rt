@@ -1,15 +1,16 @@
 //! Values in rows.
 
-ghost use Rattle.std.specs.Prelude.{◌≡◌, ◌<◌, ◌^◌, pos, IfOk, [], ◌∷◌, OnOk, IsOk};
+ghost use Rattle.std.specs.Prelude.{◌≡◌, ◌<◌, ◌^◌, pos, IfOk, [], ◌∷◌, OnOk, IsOk, Err, IsErrAnd};
 ghost use Rattle.sqlite.specs.Order.{column};
 ghost use Rattle.sqlite.specs.declared.error.Error.TheVariants.{SqliteFailure};
 ghost use Rattle.sqlite.specs.declared.error.ErrorCode.TheVariants.{OutOfMemory};
 ghost use Rattle.sqlite.specs.declared.types.Value.TheVariants.{Int};
 ghost use Rattle.sql_rows.specs.Keyed.{number_in};
 ghost use Rattle.x12_tables.specs.Adopt.{TakesRows, IsNarrow, IsLong, IsNodeNumber};
+ghost use Rattle.x12_tables.specs.Fault.{IsOldVersion};
 ghost use Rattle.x12_tables.specs.First.{IsInFirstRow};
-ghost use Rattle.x12_tables.specs.OneRow.{IsFirstVersion};
-ghost use Rattle.x12_tables.specs.declared.fault.TableFault.TheVariants.{Memory};
+ghost use Rattle.x12_tables.specs.OneRow.{IsOfVersion, IsOfOlder};
+ghost use Rattle.x12_tables.specs.declared.fault.TableFault.TheVariants.{Memory, OldVersion};
 
 use crate::fault::TableFault;
 use sqlite::types::FromSql;
@@ -62,30 +63,39 @@ pub fn first_value<T: FromSql>(rows: &[Row]) -> Result<Option<T>, Error>
     }
 }
 
-/// Tests the key and the version in the first two columns.
-fn test_version(row: &Row) -> Result<(), TableFault>
+/// Tests the version in the second column, and then the key in the first.
+fn test_version(row: &Row, wanted: u32) -> Result<(), TableFault>
     ensures key { OnOk result (column row.now 0 ≡ Int (pos 1)) }
-    ensures version { OnOk result (column row.now 1 ≡ Int (pos 1)) }
-    ensures taken { TakesRows (IsFirstVersion (row.now ∷ [])) Memory result }
+    ensures version { OnOk result (column row.now 1 ≡ Int (pos wanted)) }
+    ensures taken { TakesRows (IsOfVersion wanted (row.now ∷ [])) Memory result }
+    ensures older { IsOfOlder wanted (row.now ∷ []) → IsErrAnd result IsOldVersion }
+    ensures only { result ≡ Err OldVersion → IsOfOlder wanted (row.now ∷ []) }
 {
-    let key = number_in(row, 0)?;
     let version = number_in(row, 1)?;
-    if version != 1 {
+    if 0 < version && version < wanted {
+        return Err(TableFault::OldVersion);
+    }
+    if version != wanted {
         return Err(TableFault::NotOurs);
     }
+    let key = number_in(row, 0)?;
     if key != 1 {
         return Err(TableFault::Store);
     }
     Ok(())
 }
 
-/// The one row of a table that says its version, which is 1. [`TableFault::NotOurs`] where there is no
-/// row, or one of another version; [`TableFault::Store`] where there are several, or the key isn't 1.
-pub fn one_row(rows: &[Row]) -> Result<&Row, TableFault>
+/// The one row of a table that says its version, which is the wanted one. It is tested before all
+/// else: [`TableFault::OldVersion`] where it is an older one, from 1 on; [`TableFault::NotOurs`] where
+/// there is no row, or one of any other version; [`TableFault::Store`] where there are several rows,
+/// or the key isn't 1.
+pub fn one_row(rows: &[Row], wanted: u32) -> Result<&Row, TableFault>
     ensures one { IfOk result (λ row. rows.now ≡ row.now ∷ []) }
     ensures key { IfOk result (λ row. column row.now 0 ≡ Int (pos 1)) }
-    ensures version { IfOk result (λ row. column row.now 1 ≡ Int (pos 1)) }
-    ensures taken { TakesRows (IsFirstVersion rows.now) Memory result }
+    ensures version { IfOk result (λ row. column row.now 1 ≡ Int (pos wanted)) }
+    ensures taken { TakesRows (IsOfVersion wanted rows.now) Memory result }
+    ensures older { IsOfOlder wanted rows.now → IsErrAnd result IsOldVersion }
+    ensures only { result ≡ Err OldVersion → IsOfOlder wanted rows.now }
 {
     if rows.is_empty() {
         return Err(TableFault::NotOurs);
@@ -93,7 +103,7 @@ pub fn one_row(rows: &[Row]) -> Result<&Row, TableFault>
     let [row] = rows else {
         return Err(TableFault::Store);
     };
-    test_version(row)?;
+    test_version(row, wanted)?;
     Ok(row)
 }
 

@@ -16,6 +16,7 @@ pub(crate) const WORDS: OptionWords<'static> = OptionWords {
     gcn: "1",
     date: "20250102",
     time: "0931",
+    lenient: false,
     pairs: &["PO850"],
 };
 
@@ -86,10 +87,12 @@ fn words_are_read(rt: HostRuntime) {
     let words = OptionWords {
         icn: "999999999",
         gcn: "000000007",
+        lenient: true,
         ..WORDS
     };
     let options = read_options(rt.alloc(), &words).expect(&rt, "options");
     assert!(rt; are_of_beta(&options) && options.icn == 999_999_999 && options.gcn == 7);
+    assert!(rt; options.lenient);
 }
 
 /// Stops the test unless each of these words is refused for its fault.

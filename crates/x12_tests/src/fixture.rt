@@ -5,7 +5,7 @@ ghost use Rattle.std.specs.Prelude.{◌≡◌};
 use std::alloc::{AllocError, Global};
 use std::process::Abort;
 use x12_envelopes::{Delims, Header, Party, SetNo};
-use x12_judge::{GroupVerdict, Judgement, Note, SetCode, SetNote, SetVerdict, Verdict};
+use x12_judge::{GroupVerdict, Judgement, Note, SetCode, SetNote, SetResult, SetVerdict, Verdict};
 
 pub(crate) const ALPHA: Party = Party {
     qualifier: *b"ZZ",
@@ -68,10 +68,11 @@ pub(crate) fn order() -> Header
     }
 }
 
-/// A purchase order whose number ends in this digit.
+/// A purchase order whose number ends in this digit, and how it fares.
 pub(crate) fn set<'a>(
     alloc: Global,
     last: u8,
+    fares: SetResult,
     codes: &[SetCode],
     notes: &[SetNote<'a>],
 ) -> Result<SetVerdict<'a>, AllocError> {
@@ -82,6 +83,7 @@ pub(crate) fn set<'a>(
             bytes: [b'0', b'0', b'0', last, 0, 0, 0, 0, 0],
         },
         bytes: b"",
+        result: fares,
         codes: codes.iter().copied().collect(alloc)?,
         notes: Vec::from_slice(alloc, notes)?,
     })
@@ -107,14 +109,15 @@ pub(crate) fn group<'a>(
     }
 }
 
-/// One order with these codes and notes, alone in its group.
+/// One order that fares so, with these codes and notes, alone in its group.
 pub(crate) fn one<'a>(
     alloc: Global,
+    fares: SetResult,
     codes: &[SetCode],
     notes: &[SetNote<'a>],
 ) -> Result<Judgement<'a>, AllocError> {
-    let accepted = u32::from(codes.is_empty());
-    let set = set(alloc, b'1', codes, notes)?;
+    let accepted = u32::from(fares.is_accepted());
+    let set = set(alloc, b'1', fares, codes, notes)?;
     judged(alloc, group(1, accepted, vec![in alloc; set]?))
 }
 

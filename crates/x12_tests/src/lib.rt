@@ -15,6 +15,8 @@ mod faults;
 #[cfg(test)]
 mod fixture;
 #[cfg(test)]
+mod group_reply;
+#[cfg(test)]
 mod header;
 #[cfg(test)]
 mod large;

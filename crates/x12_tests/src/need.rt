@@ -5,7 +5,7 @@ use std::alloc::Global;
 use std::process::Abort;
 use std::test::Fail;
 use x12_acks::needs;
-use x12_judge::{Judgement, Note, Verdict};
+use x12_judge::{Judgement, Note, SetResult, Verdict};
 
 /// An interchange without a group.
 fn no_group(alloc: Global) -> Judgement<'static> {
@@ -55,6 +55,7 @@ fn only_what_asks_or_holds_a_group_is_answered(rt: HostRuntime) -> Result<(), Fa
     check(&rt, &no_group(rt.alloc()), &OF_NO_GROUP);
     check(&rt, &noted(8), &OF_REFUSED);
     check(&rt, &tas_alone(), &OF_TAS);
-    check(&rt, &one(rt.alloc(), &[], &[])?, &OF_ORDER);
+    let order = one(rt.alloc(), SetResult::Accepted, &[], &[])?;
+    check(&rt, &order, &OF_ORDER);
     Ok(())
 }

@@ -2,41 +2,26 @@
 
 ghost use Rattle.std.specs.Prelude.{◌≡◌};
 
-use crate::fixture::{BETA, GAMMA, check_bytes, group, judged, noted, one, order, set};
+use crate::fixture::{BETA, GAMMA, check_bytes, noted, one, order};
 use std::alloc::{AllocError, Global};
 use std::process::Abort;
 use std::test::Fail;
 use x12_acks::{ReplyHeader, needs, push_reply, write_refusal, write_reply};
 use x12_envelopes::{Delims, Header, Moment};
-use x12_judge::{ElementCode, GroupRefusal, Judgement, Note, SegmentCode, SetCode, SetNote};
+use x12_judge::{ElementCode, Judgement, Note, SegmentCode, SetCode, SetNote, SetResult};
 
 /// ISA of BETA's replies to ALPHA, the TA1 that accepts, the start of the 997, and the trailers.
-const A: &str =
+pub(crate) const A: &str =
     "ISA*00*          *00*          *ZZ*BETA           *ZZ*ALPHA          *250102*0931*U*00401*000000001*0*P*:~";
 
-const T: &str = "TA1*000000001*250102*0930*A*000~";
+pub(crate) const T: &str = "TA1*000000001*250102*0930*A*000~";
 
-const G: &str = "GS*FA*BETA*ALPHA*20250102*0931*1*X*004010~ST*997*0001~AK1*PO*1~";
+pub(crate) const G: &str = "GS*FA*BETA*ALPHA*20250102*0931*1*X*004010~ST*997*0001~AK1*PO*1~";
 
-const Z: &str = "GE*1*1~IEA*1*000000001~";
+pub(crate) const Z: &str = "GE*1*1~IEA*1*000000001~";
 
 fn moment(rt: &impl Abort) -> Moment {
     Moment::new(*b"20250102", *b"0931").expect(rt, "a moment")
-}
-
-/// Two orders, of which the second has these codes.
-fn two(alloc: Global, codes: &[SetCode]) -> Result<Judgement<'static>, AllocError> {
-    let mut sets = Vec::new(alloc);
-    sets.push(set(alloc, b'1', &[], &[])?)?;
-    sets.push(set(alloc, b'2', codes, &[])?)?;
-    judged(alloc, group(2, 1, sets))
-}
-
-/// A group that is refused.
-fn refused(alloc: Global, refusal: GroupRefusal) -> Result<Judgement<'static>, AllocError> {
-    let mut verdict = group(1, 0, Vec::new(alloc));
-    verdict.refused = Some(refusal);
-    judged(alloc, verdict)
 }
 
 /// BETA answers, under numbers 1 and 1.
@@ -65,7 +50,7 @@ fn reply(
 }
 
 /// Stops the test unless the reply to this judgement is these pieces.
-fn check(
+pub(crate) fn check(
     rt: &impl Abort,
     alloc: Global,
     name: &str,
@@ -132,23 +117,39 @@ const NO_DATE: SetNote<'static> = SetNote::Element {
     copy: b"20251301",
 };
 
-/// What the case shows, the codes and notes of the order's one set, and the pieces of its answer.
+/// What the case shows; how the order's one set fares, its codes and notes; and the pieces of its answer.
 type SetRow = (
     &'static str,
+    SetResult,
     &'static [SetCode],
     &'static [SetNote<'static>],
     &'static [&'static str],
 );
 
-const SETS: [SetRow; 5] = [
+const SETS: [SetRow; 6] = [
     (
         "accepted",
+        SetResult::Accepted,
         &[],
         &[],
         &[A, T, G, "AK2*850*0001~AK5*A~AK9*A*1*1*1~SE*6*0001~", Z],
     ),
     (
+        "elements too long and missing, noted",
+        SetResult::Noted,
+        &[SetCode::SegmentsInError],
+        &[BEG, LONG, NO_NUMBER],
+        &[
+            A,
+            T,
+            G,
+            "AK2*850*0001~AK3*BEG*2**8~AK4*1*353*5*000~AK4*3*324*1~AK5*E*5~AK9*E*1*1*1~SE*9*0001~",
+            Z,
+        ],
+    ),
+    (
         "elements too long and missing",
+        SetResult::Rejected,
         &[SetCode::SegmentsInError],
         &[BEG, LONG, NO_NUMBER],
         &[
@@ -161,6 +162,7 @@ const SETS: [SetRow; 5] = [
     ),
     (
         "an invalid date",
+        SetResult::Rejected,
         &[SetCode::SegmentsInError],
         &[BEG, NO_DATE],
         &[
@@ -173,6 +175,7 @@ const SETS: [SetRow; 5] = [
     ),
     (
         "no line item and no trailer",
+        SetResult::Rejected,
         &[SetCode::TrailerMissing, SetCode::SegmentsInError],
         &[NO_PO1],
         &[
@@ -185,6 +188,7 @@ const SETS: [SetRow; 5] = [
     ),
     (
         "eight notes",
+        SetResult::Rejected,
         &[SetCode::SegmentsInError],
         &[AGAIN; 8],
         &[
@@ -199,8 +203,8 @@ const SETS: [SetRow; 5] = [
 
 /// Stops the test unless each judgement of the order's one set has its answer.
 fn check_sets(rt: &impl Abort, alloc: Global, rows: &[SetRow]) -> Result<(), AllocError> {
-    for (name, codes, notes, pieces) in rows {
-        let judgement = one(alloc, codes, notes)?;
+    for (name, fares, codes, notes, pieces) in rows {
+        let judgement = one(alloc, *fares, codes, notes)?;
         check(rt, alloc, name, &order(), &judgement, pieces)?;
     }
     Ok(())
@@ -209,54 +213,6 @@ fn check_sets(rt: &impl Abort, alloc: Global, rows: &[SetRow]) -> Result<(), All
 #[test]
 fn a_set_is_answered_by_its_codes_and_notes(rt: HostRuntime) -> Result<(), Fail> {
     check_sets(&rt, rt.alloc(), &SETS)?;
-    Ok(())
-}
-
-/// The answer to two orders, of which the second has a wrong segment count.
-const IN_PART: [&str; 5] = [
-    A,
-    T,
-    G,
-    "AK2*850*0001~AK5*A~AK2*850*0002~AK5*R*4~AK9*P*2*2*1~SE*8*0001~",
-    Z,
-];
-
-#[test]
-fn a_group_is_accepted_in_part(rt: HostRuntime) -> Result<(), Fail> {
-    let judgement = two(rt.alloc(), &[SetCode::CountWrong])?;
-    let name = "a wrong segment count";
-    check(&rt, rt.alloc(), name, &order(), &judgement, &IN_PART)?;
-    Ok(())
-}
-
-/// What the case shows, why the order's group is refused, and the pieces of its answer.
-type GroupRow = (&'static str, GroupRefusal, &'static [&'static str]);
-
-const REFUSED_GROUPS: [GroupRow; 2] = [
-    (
-        "a wrong group trailer",
-        GroupRefusal::NumbersDiffer,
-        &[A, T, G, "AK9*R*1*1*0*4~SE*4*0001~", Z],
-    ),
-    (
-        "an unsupported group",
-        GroupRefusal::NotSupported,
-        &[A, T, G, "AK9*R*1*1*0*1~SE*4*0001~", Z],
-    ),
-];
-
-/// Stops the test unless each refused group has its answer.
-fn check_refused(rt: &impl Abort, alloc: Global, rows: &[GroupRow]) -> Result<(), AllocError> {
-    for (name, refusal, pieces) in rows {
-        let judgement = refused(alloc, *refusal)?;
-        check(rt, alloc, name, &order(), &judgement, pieces)?;
-    }
-    Ok(())
-}
-
-#[test]
-fn a_refused_group_is_answered_by_its_code(rt: HostRuntime) -> Result<(), Fail> {
-    check_refused(&rt, rt.alloc(), &REFUSED_GROUPS)?;
     Ok(())
 }
 
@@ -301,7 +257,8 @@ fn a_reply_keeps_the_delimiters(rt: HostRuntime) -> Result<(), Fail> {
     };
     let header = Header { delims, ..order() };
     let notes = [BEG, LONG_WITH_STAR];
-    let judgement = one(rt.alloc(), &[SetCode::SegmentsInError], &notes)?;
+    let codes = [SetCode::SegmentsInError];
+    let judgement = one(rt.alloc(), SetResult::Rejected, &codes, &notes)?;
     check(&rt, rt.alloc(), "bars", &header, &judgement, &[BARRED])?;
     Ok(())
 }

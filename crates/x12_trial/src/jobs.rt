@@ -46,7 +46,11 @@ fn submission(
 fn agreement(alloc: Global, partner: Party) -> Result<Ask, AllocError> {
     let pairs = Vec::from_slice(alloc, &[(*b"PO", *b"850")])?;
     Ok(Ask::Do(Action::Agree {
-        agreement: Agreement { partner, pairs },
+        agreement: Agreement {
+            partner,
+            lenient: false,
+            pairs,
+        },
     }))
 }
 

@@ -1,7 +1,7 @@
 -- What a station that is told an item again has then.
-use Rattle.std.specs.Prelude.{◌≡◌, ℕ, ◌+◌, List, [], ◌∷◌, ◌++◌, flat_map, Option, Some, None, option_to_list, IfSome, refl, All, suc}
+use Rattle.std.specs.Prelude.{◌≡◌, ◌≤◌, ℕ, ◌+◌, ◌-◌, length, List, [], ◌∷◌, ◌++◌, flat_map, Option, Some, None, option_to_list, IfSome, refl, All, suc}
 use Rattle.std.specs.List.{range_with_len}
-use mathlib.Core.Path.{sym, ap, subst, ◌∙◌}
+use mathlib.Core.Path.{sym, ap, ap₂, subst, ◌∙◌}
 use native.Mathlib.Omega.{arith}
 use Rattle.std.proofs.lemmas.Grind.{flat_map-append}
 use Rattle.std.proofs.lemmas.List.{append-nil, append_assoc, map-append}
@@ -10,14 +10,19 @@ use Rattle.x12_acks.specs.Accepted.{AcceptedSet}
 use Rattle.x12_envelopes.specs.declared.party.Party.{Party}
 use Rattle.x12_numbers.specs.Book.{Numbers}
 use Rattle.x12_numbers.proofs.Shelf.{all_of_one}
+use Rattle.x12_profile.specs.Edition.{edition_at, no_marks}
+use Rattle.x12_profile.specs.Interchange.{Bytes}
 use Rattle.x12_profile.specs.X12.{x12}
+use Rattle.x12_profile.specs.declared.edition.Edition.TheVariants.{Second}
 use Rattle.x12_station.specs.Durable.{IsHistoryOf, item_at, items_of}
 use Rattle.x12_station.specs.Opened.{opened}
-use Rattle.x12_station.specs.History.{Item, posted_by, postings}
-use Rattle.x12_station.specs.Station.{Station}
+use Rattle.x12_station.specs.History.{Item, Came, posted_by, postings}
+use Rattle.x12_station.specs.Station.{Station, edition_next}
 use Rattle.x12_station.specs.Stored.{Stored, nothing_stored, origin_of}
+use Rattle.x12_station.proofs.FateLemmas.{is_newest}
 use Rattle.x12_station.proofs.SeqLemmas.{range_more}
-use Rattle.x12_verify.specs.Told.{IsRightItem, IsTold, AreTold, HoldsTold, items_up_to, as_told, all_as_told}
+use Rattle.x12_verify.specs.Arrived.{IsRightArrival}
+use Rattle.x12_verify.specs.Told.{IsRightItem, HasSameParties, IsTold, AreTold, HoldsTold, items_up_to, as_told, all_as_told}
 
 -- All items up to a number.
 
@@ -80,3 +85,19 @@ holds_told s d me hubs book n first now all left told empty items wrote = record
   items = ap all_as_told items ∙ told.told ∙ ap (λ l. all_as_told l ++ all_as_told (items_up_to s n)) empty.0;
   posted = told.posted;
 }
+
+-- What came next is read by the newest edition, there and here.
+newest : (n : ℕ) → 1 ≤ n → edition_at no_marks n ≡ Second
+newest n low = let is : (n - 1) + 1 ≡ n = omega (arith, low) in subst (λ k. edition_at no_marks k ≡ Second) is (is_newest (n - 1))
+
+module _ (s : Stored) (me : Party) (book : Numbers) (n : ℕ) (old new : Station) (posted left : List AcceptedSet) (b x : Bytes) (r : Option Bytes) where
+  pub told_came : 1 ≤ n → item_at s n ≡ Some (Came (edition_at no_marks n) b r) → IsRightArrival s me book b r → x ≡ b → all_as_told new.items ≡ all_as_told old.items ++ Came (edition_next old) x None ∷ []
+      → HasSameParties old new → posted ≡ posted_by x12 (Came Second b r) ++ left → IsTold s me book n old new posted left
+  told_came low at right same told parties is = record {
+    item = Came Second b r;
+    at = at ∙ ap (λ by. Some (Came by b r)) (newest n low);
+    right = right;
+    told = told ∙ ap₂ (λ by y. all_as_told old.items ++ Came by y None ∷ []) (is_newest (length old.items)) same;
+    parties = parties;
+    posted_is = is;
+  }

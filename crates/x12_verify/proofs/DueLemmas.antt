@@ -21,7 +21,7 @@ use Rattle.x12_judge.specs.Verdict.{InterchangeJudgement, judgement_of}
 use Rattle.x12_numbers.specs.Book.{Numbers}
 use Rattle.x12_numbers.specs.declared.book.TheConstants.{MAX_CONTROL_NUMBER}
 use Rattle.x12_profile.specs.declared.edition.Edition.{Edition}
-use Rattle.x12_profile.specs.declared.edition.Edition.TheVariants.{First}
+use Rattle.x12_profile.specs.declared.edition.Edition.TheVariants.{Second}
 use Rattle.x12_profile.specs.Interchange.{Bytes, Needs}
 use Rattle.x12_profile.specs.Laws.{Laws, IsReply}
 use Rattle.x12_profile.specs.X12.{x12}
@@ -45,11 +45,11 @@ module _ (b : Bytes) (h : Header) (known : header_of b ≡ Ok h) (a : List Tradi
   abbrev is_due : Bool
   is_due = is_reply_due h (judgement_of own.me a h b)
 
-  reply_needed : (x12.needs First own.me a b).reply ≡ is_due
-  reply_needed = ap (λ (n : Needs). n.reply) (field.needs_is b h known First own.me a)
+  reply_needed : (by : Edition) → (x12.needs by own.me a b).reply ≡ is_due
+  reply_needed by = ap (λ (n : Needs). n.reply) (field.needs_is b h known by own.me a)
 
   pub was_answered : (book : Numbers) → own.icn ≤ book.interchange → own.gcn ≤ book.group → (by : Edition) → WasAnswered by own.me book (filed_rightly b r)
-  was_answered book interchange group First = record {
+  was_answered book interchange group ed = record {
     agreements = a;
     at = own.at;
     numbers = numbers;
@@ -58,36 +58,36 @@ module _ (b : Bytes) (h : Header) (known : header_of b ≡ Ok h) (a : List Tradi
     reply = by is_due refl;
   }
     where
-      by : (t : Bool) → is_due ≡ t → r ≡ (if (x12.needs First own.me a b).reply then Some (x12.reply First own.me a own.at numbers b) else None)
+      by : (t : Bool) → is_due ≡ t → r ≡ (if (x12.needs ed own.me a b).reply then Some (x12.reply ed own.me a own.at numbers b) else None)
       by true is =
           due.reply ∙ sym (with_reply h (judgement_of own.me a h b) own.me own.at own.icn own.gcn is)
-          ∙ sym (if_true (x12.needs First own.me a b).reply (Some (x12.reply First own.me a own.at numbers b)) None (reply_needed ∙ is) ∙ ap Some (field.reply_is b h known First own.me a own.at numbers))
+          ∙ sym (if_true (x12.needs ed own.me a b).reply (Some (x12.reply ed own.me a own.at numbers b)) None (reply_needed ed ∙ is) ∙ ap Some (field.reply_is b h known ed own.me a own.at numbers))
       by false is =
           due.reply ∙ sym (no_reply h (judgement_of own.me a h b) own.me own.at own.icn own.gcn is)
-          ∙ sym (if_false (x12.needs First own.me a b).reply (Some (x12.reply First own.me a own.at numbers b)) None (reply_needed ∙ is))
+          ∙ sym (if_false (x12.needs ed own.me a b).reply (Some (x12.reply ed own.me a own.at numbers b)) None (reply_needed ed ∙ is))
 
   pub posts_so : Laws x12 → PostsWhatIsAccepted → IsTrue (x12.is_plain own.me) → own.icn ≤ MAX_CONTROL_NUMBER → own.gcn ≤ MAX_CONTROL_NUMBER
-      → accepted_by_verdict h.sender h.icn (judgement_of own.me a h b).verdict ≡ posted_by x12 (Came First b r)
+      → accepted_by_verdict h.sender h.icn (judgement_of own.me a h b).verdict ≡ posted_by x12 (Came Second b r)
   posts_so laws posts plain icn gcn = by is_due refl
     where
       replied : is_due ≡ true → IsReply x12 own.me a b (written (reply_of h (judgement_of own.me a h b) own.me own.at own.icn own.gcn))
       replied is = record {
-        edition = First;
+        edition = Second;
         at = own.at;
         book = numbers;
         header = field.has_header_is b h known;
         plain = plain;
-        due = reply_needed ∙ is;
+        due = reply_needed Second ∙ is;
         icn_taken = due.icn_taken is;
-        gcn_taken = λ group. due.gcn_taken (sym (ap (λ (n : Needs). n.group) (field.needs_is b h known First own.me a)) ∙ group);
+        gcn_taken = λ group. due.gcn_taken (sym (ap (λ (n : Needs). n.group) (field.needs_is b h known Second own.me a)) ∙ group);
         within = within_both own.icn own.gcn icn gcn;
-        bytes = sym (field.reply_is b h known First own.me a own.at numbers);
+        bytes = sym (field.reply_is b h known Second own.me a own.at numbers);
       }
 
-      by : (t : Bool) → is_due ≡ t → accepted_by_verdict h.sender h.icn (judgement_of own.me a h b).verdict ≡ posted_by x12 (Came First b r)
+      by : (t : Bool) → is_due ≡ t → accepted_by_verdict h.sender h.icn (judgement_of own.me a h b).verdict ≡ posted_by x12 (Came Second b r)
       by true is =
-          sym (reply_posts own.me a b h known First laws (written (reply_of h (judgement_of own.me a h b) own.me own.at own.icn own.gcn)) (replied is))
-          ∙ ap (λ o. posted_by x12 (Came First b o)) (with_reply h (judgement_of own.me a h b) own.me own.at own.icn own.gcn is ∙ sym due.reply)
+          sym (reply_posts own.me a b h known Second laws (written (reply_of h (judgement_of own.me a h b) own.me own.at own.icn own.gcn)) (replied is))
+          ∙ ap (λ o. posted_by x12 (Came Second b o)) (with_reply h (judgement_of own.me a h b) own.me own.at own.icn own.gcn is ∙ sym due.reply)
       by false is =
           posts.none (arrival h.sender h.icn b) (judgement_of own.me a h b) (record {
             me = own.me;
@@ -99,7 +99,7 @@ module _ (b : Bytes) (h : Header) (known : header_of b ≡ Ok h) (a : List Tradi
             judgement = refl;
             reply = record { at = own.at; icn = own.icn; gcn = own.gcn; is = no_reply h (judgement_of own.me a h b) own.me own.at own.icn own.gcn is };
           })
-          ∙ ap (λ o. posted_by x12 (Came First b o)) (no_reply h (judgement_of own.me a h b) own.me own.at own.icn own.gcn is ∙ sym due.reply)
+          ∙ ap (λ o. posted_by x12 (Came Second b o)) (no_reply h (judgement_of own.me a h b) own.me own.at own.icn own.gcn is ∙ sym due.reply)
 
 -- What was due, by what it takes.
 

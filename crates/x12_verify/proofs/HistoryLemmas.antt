@@ -14,7 +14,7 @@ use Rattle.x12_inbound.specs.Order.{interchange, is_same_interchange}
 use Rattle.x12_inbound.specs.Register.{is_under}
 use Rattle.x12_numbers.proofs.Shelf.{all_from_contains, contains_cons, contains_head, contains_mapped, found_passes, map_twice, none_in_nil}
 use Rattle.x12_outbound.specs.Entry.{InterchangeRow}
-use Rattle.x12_profile.specs.Edition.{edition_at}
+use Rattle.x12_profile.specs.Edition.{edition_at, no_marks}
 use Rattle.x12_profile.specs.X12.{x12}
 use Rattle.x12_station.specs.Durable.{IsFiledRightly, IsAnsweredRightly, IsHistoryOf, IsOwnSubmission, WasAnswered, fared_entries, items_of}
 use Rattle.x12_station.specs.History.{HasCame, Item, Submitted, Came, KeptArrival, postings, submissions}
@@ -112,7 +112,7 @@ module _ (me : Party) (hubs : List Party) (s d : Stored) (sound : IsSound s) (wr
     })
 
     pub answered_are : All (IsAnsweredRightly me s.book) s.arrived
-    answered_are = all_from_contains (IsAnsweredRightly me s.book) s.arrived (λ r at. ∣ subst (WasAnswered (edition_at r.seq) me s.book) (sym (filed_is r at)) ((right_arrival r at).answered (edition_at r.seq)) ∣₁)
+    answered_are = all_from_contains (IsAnsweredRightly me s.book) s.arrived (λ r at. ∣ subst (WasAnswered (edition_at no_marks r.seq) me s.book) (sym (filed_is r at)) ((right_arrival r at).answered (edition_at no_marks r.seq)) ∣₁)
 
     pub history_is : s.origin ≡ origin_of me hubs → All (IsRightSubmission (entries s) (entries d)) (items_of d) → s.postings ≡ postings x12 (items_of s) → IsHistoryOf me hubs s
     history_is origin stand posted = record {

@@ -5,7 +5,6 @@ use mathlib.Core.Path.{sym, ap, ap₂, ◌∙◌}
 use Rattle.x12_acks.specs.Submission.{Submission, SubmittedGroup, SubmittedSet}
 use Rattle.x12_envelopes.specs.declared.party.Party.{Party}
 use Rattle.x12_outbound.specs.Entry.{InterchangeRow, GroupRow, SetRow}
-use Rattle.x12_profile.specs.declared.edition.Edition.TheVariants.{First}
 use Rattle.x12_profile.specs.Interchange.{Bytes, PlacedEvidence}
 use Rattle.x12_profile.specs.X12.{x12, submission_in_bytes}
 use Rattle.x12_station.specs.Durable.{fared_entries, fared_entry, items_of}
@@ -35,7 +34,7 @@ after_told (Came ed b r ∷ items) x = after_told items x
 -- an item tells as much
 one_told : (me : Party) (hubs : List Party) (x : Bytes) (c : Item) → told x12 me hubs x (as_told c) ≡ told x12 me hubs x c
 one_told me hubs x (Submitted y) = refl
-one_told me hubs x (Came First b r) = refl
+one_told me hubs x (Came by b r) = refl
 
 each_told : (me : Party) (hubs : List Party) (x : Bytes) (items : List Item) → flat_map (told x12 me hubs x) (all_as_told items) ≡ flat_map (told x12 me hubs x) items
 each_told me hubs x [] = refl

@@ -1,12 +1,10 @@
 -- A history that is told again: the submissions and first arrivals by their numbers, without the
--- replies that are kept. Fates are functions of what is told; postings of the kept replies. All is
--- read by the one edition that there is.
+-- replies that are kept. Fates are functions of what is told; postings of the kept replies.
 use Rattle.std.specs.Prelude.{◌≡◌, ℕ, List, [], ◌∷◌, ◌++◌, map, flat_map, Some, None, option_to_list, All}
 use Rattle.std.specs.List.{range_with_len}
 use Rattle.x12_acks.specs.Accepted.{AcceptedSet}
 use Rattle.x12_envelopes.specs.declared.party.Party.{Party}
 use Rattle.x12_numbers.specs.Book.{Numbers}
-use Rattle.x12_profile.specs.declared.edition.Edition.TheVariants.{First}
 use Rattle.x12_profile.specs.X12.{x12}
 use Rattle.x12_station.specs.Durable.{IsHistoryOf, item_at, items_of}
 use Rattle.x12_station.specs.History.{Item, Submitted, Came, posted_by, postings}
@@ -17,7 +15,7 @@ use Rattle.x12_verify.specs.Arrived.{IsRightArrival}
 -- an item, without the reply that is kept for it
 abbrev pub as_told : Item → Item
 as_told (Submitted x) = Submitted x
-as_told (Came by b r) = Came First b None
+as_told (Came by b r) = Came by b None
 
 -- a history, without its replies
 abbrev pub all_as_told : List Item → List Item

@@ -2,8 +2,8 @@
 //! arrival tells of what was submitted doesn't depend on them.
 
 ghost use Rattle.std.specs.Prelude.{◌≡◌, ◌∷◌, ◌++◌, [], None, IsTrue, OnOk};
-ghost use Rattle.x12_profile.specs.declared.edition.Edition.TheVariants.{First};
 ghost use Rattle.x12_station.specs.History.{Submitted, Came};
+ghost use Rattle.x12_station.specs.Station.{edition_next};
 ghost use Rattle.x12_verify.specs.Told.{all_as_told, HasSameParties};
 
 use crate::difference::{Difference, Stop};
@@ -44,7 +44,8 @@ pub(crate) fn hear_again(
 ) -> Result<(), Stop>
     ensures never_won_back { IsTrue again.new.answers → IsTrue again.old.answers }
     ensures told { IsTrue again.new.answers → OnOk result (all_as_told again.new.state.items
-        ≡ all_as_told again.old.state.items ++ Came First bytes.now None ∷ []) }
+        ≡ all_as_told again.old.state.items
+        ++ Came (edition_next again.old.state) bytes.now None ∷ []) }
     ensures parties { IsTrue again.new.answers →
         OnOk result (HasSameParties again.old.state again.new.state) }
 {

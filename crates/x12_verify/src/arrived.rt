@@ -7,7 +7,7 @@ ghost use Rattle.x12_inbound.specs.Filing.{reply_bytes};
 ghost use Rattle.x12_inbound.specs.Posting.{posting_view};
 ghost use Rattle.x12_judge.specs.Agreement.{agreement_view};
 ghost use Rattle.x12_judge.specs.Verdict.{judgement_of};
-ghost use Rattle.x12_profile.specs.declared.edition.Edition.TheVariants.{First};
+ghost use Rattle.x12_profile.specs.declared.edition.Edition.TheVariants.{Second};
 ghost use Rattle.x12_profile.specs.X12.{x12};
 ghost use Rattle.x12_station.specs.History.{Came, posted_by};
 ghost use Rattle.x12_station.specs.Standing.{WereAsked};
@@ -132,7 +132,7 @@ fn take_posted<'a>(
         (map agreement_view due.now.agreements.items) header.now filed.now.bytes.items)
         (record own.now { at = due.now.at }) (reply_bytes filed.now.reply) }
     ensures { IfOk result (λ more. map posting_view postings.entry.left.now
-        ≡ posted_by x12 (Came First filed.now.bytes.items (reply_bytes filed.now.reply))
+        ≡ posted_by x12 (Came Second filed.now.bytes.items (reply_bytes filed.now.reply))
         ++ map posting_view more.left.now) }
 {
     let kept = keep(holder.alloc, header, own, due, filed)?;
@@ -157,7 +157,7 @@ pub(crate) fn take_arrival<'a, R: Records>(
         (IsRightArrival (R.content records.old) holder.now.me holder.now.loaded.now.book
         filed.now.bytes.items (reply_bytes filed.now.reply)) }
     ensures posted { IfOk result (λ more. map posting_view postings.entry.left.now
-        ≡ posted_by x12 (Came First filed.now.bytes.items (reply_bytes filed.now.reply))
+        ≡ posted_by x12 (Came Second filed.now.bytes.items (reply_bytes filed.now.reply))
         ++ map posting_view more.left.now) }
 {
     let Ok(header) = read_header(&filed.bytes) else {

@@ -1,9 +1,10 @@
 //! Whether what is kept as the reply to an arrival was due: it is written again from what came, under
 //! the numbers and at the moment that the kept one names.
 //!
-//! Which agreement was in force then isn't kept. It is the one that is in force now, or else each that
-//! can matter is tried: a choice of the pairs that occur in what came, and, as a group is judged by its
-//! code alone, for each code of a pair that no set has.
+//! Which agreement was in force then isn't kept. It has the pairs that are in force now, or else each
+//! choice that can matter is tried: of the pairs that occur in what came, and, as a group is judged by
+//! its code alone, for each code of a pair that no set has. Each choice is tried strictly, and then
+//! leniently.
 
 ghost use Rattle.std.specs.Prelude.{◌≡◌, ◌≤◌, IsTrue, IfOk, IfSome, None, Ok, Some, map};
 ghost use Rattle.x12_acks.specs.Reply.{is_reply_due, reply_from};
@@ -172,10 +173,12 @@ fn due_at(
     }
 }
 
-/// Under which agreement and when the reply was due, where these pairs are taken from the sender.
+/// Under which agreement and when the reply was due, where these pairs are taken from the sender,
+/// leniently or not.
 fn due_by(
     alloc: Global,
     pairs: &[Pair],
+    lenient: bool,
     header: &Header,
     own: &ReplyHeader,
     filed: &Filed,
@@ -188,6 +191,7 @@ fn due_by(
 {
     let agreement = Agreement {
         partner: header.sender,
+        lenient,
         pairs: Vec::from_slice(alloc, pairs)?,
     };
     let agreements = vec![in alloc; agreement]?;
@@ -196,6 +200,26 @@ fn due_by(
         Some(at) => Ok(Some(Due { agreements, at })),
         None => Ok(None),
     }
+}
+
+/// The same, where these pairs are taken from the sender: strictly, or else leniently.
+fn due_either(
+    alloc: Global,
+    pairs: &[Pair],
+    header: &Header,
+    own: &ReplyHeader,
+    filed: &Filed,
+) -> Result<Option<Due>, AllocError>
+    requires read { header_of filed.now.bytes.items ≡ Ok header.now }
+    requires number { own.now.icn ≤ 999999999 }
+    ensures { IfOk result (λ o. IfSome o (λ d. WasDueFrom header.now
+        (judgement_of own.now.me (map agreement_view d.agreements.items) header.now
+        filed.now.bytes.items) (record own.now { at = d.at }) (reply_bytes filed.now.reply))) }
+{
+    if let Some(due) = due_by(alloc, pairs, false, header, own, filed)? {
+        return Ok(Some(due));
+    }
+    due_by(alloc, pairs, true, header, own, filed)
 }
 
 /// Adds a pair, if it isn't among them.
@@ -271,7 +295,7 @@ pub(crate) fn find_due(
         filed.now.bytes.items) (record own.now { at = d.at }) (reply_bytes filed.now.reply))) }
 {
     let now = pairs_now(agreements, &header.sender);
-    if let Some(due) = due_by(alloc, now, header, own, filed)? {
+    if let Some(due) = due_either(alloc, now, header, own, filed)? {
         return Ok(Some(due));
     }
     let pairs = pairs_of(alloc, &filed.bytes, header)?;
@@ -279,7 +303,7 @@ pub(crate) fn find_due(
         let Some(taken) = chosen(alloc, &pairs, choice)? else {
             return Ok(None);
         };
-        if let Some(due) = due_by(alloc, &taken, header, own, filed)? {
+        if let Some(due) = due_either(alloc, &taken, header, own, filed)? {
             return Ok(Some(due));
         }
     }

@@ -7,7 +7,7 @@ ghost use Rattle.x12_inbound.specs.Filing.{reply_bytes};
 ghost use Rattle.x12_inbound.specs.Posting.{posting_view};
 ghost use Rattle.x12_judge.specs.Agreement.{agreement_view};
 ghost use Rattle.x12_judge.specs.Verdict.{judgement_of};
-ghost use Rattle.x12_profile.specs.declared.edition.Edition.TheVariants.{First};
+ghost use Rattle.x12_profile.specs.declared.edition.Edition.TheVariants.{Second};
 ghost use Rattle.x12_profile.specs.X12.{x12};
 ghost use Rattle.x12_station.specs.History.{Came, posted_by};
 ghost use Rattle.x12_verify.specs.Arrived.{WasDueFrom};
@@ -47,7 +47,7 @@ pub(crate) fn keep(
         (map agreement_view due.now.agreements.items) header.now filed.now.bytes.items)
         (record own.now { at = due.now.at }) (reply_bytes filed.now.reply) }
     ensures { IfOk result (λ k. k.postings
-        ≡ posted_by x12 (Came First filed.now.bytes.items (reply_bytes filed.now.reply))) }
+        ≡ posted_by x12 (Came Second filed.now.bytes.items (reply_bytes filed.now.reply))) }
 {
     // laws: X12 is as the network asks, and what is posted was accepted
     x12_meets_the_laws();

@@ -22,7 +22,7 @@ pub(crate) struct Telling<'a> {
     pub postings: Postings<'a>,
 }
 
-/// Tells the item of this number again.
+/// Tells the item of this number, from 1, again.
 fn tell_item<'a, R: Records>(
     records: &mut R,
     holder: &Holder<'_>,
@@ -32,6 +32,7 @@ fn tell_item<'a, R: Records>(
 ) -> Result<Telling<'a>, Stop>
     requires valid { R.valid records.old }
     requires plain { IsTrue (is_plain_party holder.now.me) }
+    requires counted { 1 ≤ number }
     ensures asked { WereAsked R.Records records.old records.new }
     ensures never_won_back { IsTrue again.new.answers → IsTrue again.old.answers }
     ensures told { IsTrue (R.answers records.new) → IsTrue again.new.answers →

@@ -7,6 +7,7 @@ pub fn fate_word(fate: Fate) -> &'static str {
     match fate {
         Fate::Pending => "pending",
         Fate::Accepted => "accepted",
+        Fate::Noted => "noted",
         Fate::Rejected => "rejected",
     }
 }

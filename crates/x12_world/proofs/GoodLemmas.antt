@@ -4,7 +4,10 @@ use Rattle.std.specs.List.{list_all}
 use mathlib.Core.Path.{sym, ap, subst, ◌∙◌}
 use Rattle.x12_judge.specs.Agreement.{is_same_party}
 use Rattle.x12_profile.proofs.PartyLemmas.{is_same_party-Decides}
-use Rattle.x12_profile.specs.Result.{SetResult, Accepts, Rejects, takes, fate_of_result}
+use Rattle.x12_judge.specs.declared.verdict.SetResult.{SetResult}
+use Rattle.x12_judge.specs.declared.verdict.SetResult.TheVariants.{Accepted, Noted, Rejected}
+use Rattle.x12_judge.specs.Set.{takes}
+use Rattle.x12_acks.specs.Evidence.{fate_of_result}
 use Rattle.x12_profile.specs.Interchange.{Bytes, PlacedTransactionSet}
 use Rattle.x12_profile.specs.Profile.{Profile}
 use Rattle.x12_profile.specs.Laws.{Laws}
@@ -35,8 +38,9 @@ good (Judged v) t = by (takes (result_of v t.place))
 good (Learnt v) t = by (result_of v t.place)
   where
     by : (r : SetResult) → postings_are_bad (ended (fate_of_result r)) (list_all (bytes_eq t.bytes) (if takes r then t.bytes ∷ [] else [])) (Some (length (if takes r then t.bytes ∷ [] else []))) ≡ false
-    by Accepts = rw (bytes_eq_itself t.bytes) refl
-    by Rejects = refl
+    by Accepted = rw (bytes_eq_itself t.bytes) refl
+    by Noted = rw (bytes_eq_itself t.bytes) refl
+    by Rejected = refl
 
 module _ (p : Profile) (laws : Laws p) (net : Network) (w : World) (was : Sound p net w) (keys : KeysTell p w) (e : Exchange) (refines : Refines p w e) where
   -- of a set that a station submitted

@@ -7,7 +7,10 @@ use Rattle.std.proofs.lemmas.List.{append-nil}
 use Rattle.x12_envelopes.specs.declared.party.Party.{Party}
 use Rattle.x12_profile.specs.declared.edition.Edition.{Edition}
 use Rattle.x12_profile.specs.declared.edition.Edition.TheVariants.{First}
-use Rattle.x12_profile.specs.Result.{SetResult, Accepts, Rejects, takes, fate_of_result, counts_as_accepted}
+use Rattle.x12_judge.specs.declared.verdict.SetResult.{SetResult}
+use Rattle.x12_judge.specs.declared.verdict.SetResult.TheVariants as result
+use Rattle.x12_judge.specs.Set.{takes}
+use Rattle.x12_profile.specs.Result.{counts_as_accepted}
 use Rattle.x12_profile.specs.Interchange.{Bytes, PlaceOfSet, PlacedTransactionSet, PlacedEvidence, is_place, evidence_by}
 use Rattle.x12_profile.specs.Profile.{Profile}
 use Rattle.x12_profile.specs.Laws.{Laws}
@@ -24,12 +27,12 @@ use Rattle.x12_world.specs.Headline.{Headline}
 use Rattle.x12_acks.proofs.ReplyGroupLemmas.{same_party_itself}
 use Rattle.x12_numbers.proofs.Shelf.{eq_itself, some_inj}
 use Rattle.x12_station.proofs.HistoryLemmas.{in_submissions, submitted_in, in_arrivals, after_in_items, told_final_by, told_final, told_stays, told_found, told_contains, told_append, posted_from, filed_found}
-use Rattle.x12_world.proofs.Traces.{Trace, Answers, IsBy, IsRefusedWith, SentOk}
+use Rattle.x12_world.proofs.Traces.{Trace, Answers, IsBy, IsRefusedWith, newest, SentOk}
 use Rattle.x12_world.proofs.RoutedLemmas.{not_forwarded}
 use Rattle.x12_world.proofs.WorldLemmas.{trace_of, Sound, IsLater}
 use Rattle.x12_world.proofs.LearntLemmas.{by_verdict, has_verdict, name_at, items_at, decisions_at, hub_believed, believes_hub, no_hub_item, hub_of, learnt}
 use Rattle.x12_acks.specs.Key.{is_same_key}
-use Rattle.x12_acks.specs.Evidence.{FinalFate, rejected}
+use Rattle.x12_acks.specs.Evidence.{FinalFate, fate_of_result, rejected}
 use Rattle.x12_outbound.specs.Fate.{ended}
 use Rattle.x12_outbound.specs.declared.fate.Fate.TheVariants.{Pending, Rejected}
 use Rattle.x12_outbound.specs.declared.fate.Fate.{Fate}
@@ -53,8 +56,9 @@ under_key p x k acc (s ∷ ss) = by (acc s) refl (is_place k s.place) refl (unde
 
 -- what is taken counts as accepted
 pub taken_counts : (r : SetResult) → takes r ≡ counts_as_accepted (fate_of_result r)
-taken_counts Accepts = refl
-taken_counts Rejects = refl
+taken_counts result.Accepted = refl
+taken_counts result.Noted = refl
+taken_counts result.Rejected = refl
 
 module _ (p : Profile) (laws : Laws p) (net : Network) (w : World) (was : Sound p net w) where
   abbrev t : Trace
@@ -77,19 +81,19 @@ module _ (p : Profile) (laws : Laws p) (net : Network) (w : World) (was : Sound 
         not_forwarded p t was.holds x i x_ok.by not_hub k r d j (no_hub_item p laws net w was j (Came came.0 x reply) came.1) boxed.0 boxed.1 boxed.2
 
     -- the receiver's reply tells what it accepts
-    pub kept_tells : (r : Bytes) (j : ℕ) → HasCame (t.items j) x (Some r) → t.names j ≡ Some (p.receiver x) → (v : PlaceOfSet → SetResult) × ((ed : Edition) (hubs : List Party) → p.evidence ed hubs r x ≡ evidence_by v (p.sets x)) × ((u : PlacedTransactionSet) → Contains (p.sets x) u → p.result x r u.place ≡ v u.place)
+    pub kept_tells : (r : Bytes) (j : ℕ) → HasCame (t.items j) x (Some r) → t.names j ≡ Some (p.receiver x) → (v : PlaceOfSet → SetResult) × ((hubs : List Party) → p.evidence newest hubs r x ≡ evidence_by newest v (p.sets x)) × ((u : PlacedTransactionSet) → Contains (p.sets x) u → p.result x r u.place ≡ v u.place)
     kept_tells r j came name =
         let ok = was.holds.reply j x r came in
         let same : Some (p.receiver x) ≡ Some ok.me = sym name ∙ ok.at in
         let me : p.receiver x ≡ ok.me = some_inj same in
-        (p.verdict ok.reply.edition ok.me ok.agreements x, λ ed hubs. laws.reply.tells ok.me ok.agreements x r ok.reply x_ok.submission x_ok.from x_ok.rises me ed hubs, λ u has. laws.reply.result ok.me ok.agreements x r ok.reply u.place)
+        (p.verdict ok.reply.edition ok.me ok.agreements x, laws.reply.tells ok.me ok.agreements x r ok.reply x_ok.submission x_ok.from x_ok.rises me newest, λ u has. laws.reply.result ok.me ok.agreements x r ok.reply u.place)
 
     -- a hub's refusal rejects
-    pub refused_tells : (ed : Edition) (k : ℕ) (r : Bytes) → IsRefusedWith t k x r → p.evidence ed s.hubs r x ≡ evidence_by (λ k. Rejects) (p.sets x)
-    refused_tells ed k r d =
+    pub refused_tells : (k : ℕ) (r : Bytes) → IsRefusedWith t k x r → p.evidence newest s.hubs r x ≡ evidence_by newest (λ k. result.Rejected) (p.sets x)
+    refused_tells k r d =
         let ok = was.holds.refusal k x r d in
         let h = hub_of p laws net w was k (record { body = x; outcome = Refused r }) d in
-        laws.refusal.tells ok.me x r ok.refusal x_ok.submission ed s.hubs (believes_hub p laws net w was i s at k ok.me (was.only_hubs k h.0 h.1) ok.at)
+        laws.refusal.tells ok.me x r ok.refusal x_ok.submission newest s.hubs (believes_hub p laws net w was i s at k ok.me (was.only_hubs k h.0 h.1) ok.at)
 
   module _ (i : ℕ) (s : Station) (at : StationAt w i s) (x : Bytes) (ts : PlacedTransactionSet) (sent : Contains (submissions s.items) x) (has : Contains (p.sets x) ts) where
     -- where it came nowhere, nothing is posted under its keys
@@ -125,13 +129,14 @@ module _ (p : Profile) (laws : Laws p) (net : Network) (w : World) (was : Sound 
         let from = told_found p s.me s.hubs s.items x e told in
         let here : HasCame (t.items i) from.1 from.2 = rw (items_at p laws net w was i s at) (from.0, after_in_items s.items x (Came from.0 from.1 from.2) from.3) in
         let ok = was.holds.came i from.1 from.2 here in
+        let by_newest : Contains (p.evidence newest s.hubs from.1 x) e = subst (λ ed. Contains (p.evidence ed s.hubs from.1 x) e) (was.holds.by_newest i from.0 from.1 from.2 here.1) from.5 in
         elim (learnt p laws net w was from.0 i s.me (name_at p laws net w was i s at) x from.1 (sent_item i s at x sent) ok.header ok.carried from.4 s.hubs e from.5 j name (hub_believed p laws net w was i s at)) [
           | inl kept ↦
               let tells = (kept_tells i s at x sent) from.1 j kept name in
-              let v = by_verdict tells.0 (p.sets x) e (rw (tells.1 from.0 s.hubs) at from.5) in
+              let v = by_verdict tells.0 (p.sets x) e (rw (tells.1 s.hubs) at by_newest) in
               posts_accepted from.1 j kept (counts_as_accepted e.fate) (ap takes (tells.2 ts has ∙ ap tells.0 (sym place)) ∙ taken_counts (tells.0 e.place) ∙ ap counts_as_accepted (sym v.0))
           | inr d ↦
-              let v = by_verdict (λ k. Rejects) (p.sets x) e (rw ((refused_tells i s at x sent) from.0 d.0 from.1 d.1) at from.5) in
+              let v = by_verdict (λ k. result.Rejected) (p.sets x) e (rw ((refused_tells i s at x sent) d.0 from.1 d.1) at by_newest) in
               rw v.0 (posts_nothing d.0 from.1 d.1 j)
         ]
 
@@ -151,22 +156,24 @@ module _ (p : Profile) (laws : Laws p) (net : Network) (w : World) (was : Sound 
         after : Answers t x r → HasCame (items_after x s.items) r came_before.0
         after answers = subst (λ l. HasCame (items_after x l) r came_before.0) items (was.holds.order i x r came_before.0 (sent_item i s at x sent) (rw items came_before.1) answers)
 
-        settles : Answers t x r → ((ed : Edition) → p.refuses ed (p.sender x) r ≡ false) → (v : PlaceOfSet → SetResult) → ((ed : Edition) → p.evidence ed s.hubs r x ≡ evidence_by v (p.sets x)) → fate_in p s.me s.hubs s.items x ts.place ≢ Pending
+        settles : Answers t x r → ((ed : Edition) → p.refuses ed (p.sender x) r ≡ false) → (v : PlaceOfSet → SetResult) → p.evidence newest s.hubs r x ≡ evidence_by newest v (p.sets x) → fate_in p s.me s.hubs s.items x ts.place ≢ Pending
         settles answers taken v tells =
             let there = after answers in
+            let by_newest : newest ≡ there.0 = sym (was.holds.by_newest i there.0 r came_before.0 (rw items (after_in_items s.items x (Came there.0 r came_before.0) there.1))) in
             told_final ts.place (told_in p s.me s.hubs s.items x) (record { place = ts.place; fate = fate_of_result (v ts.place) })
-            (told_contains p s.me s.hubs s.items x there.0 r came_before.0 (record { place = ts.place; fate = fate_of_result (v ts.place) }) there.1 (subst (λ z. p.refuses there.0 z r ≡ false) mine (taken there.0)) (rw (tells there.0) (has_verdict v (p.sets x) ts has))) refl
+            (told_contains p s.me s.hubs s.items x there.0 r came_before.0 (record { place = ts.place; fate = fate_of_result (v ts.place) }) there.1 (subst (λ z. p.refuses there.0 z r ≡ false) mine (taken there.0))
+            (subst (λ ed. Contains (p.evidence ed s.hubs r x) (record { place = ts.place; fate = fate_of_result (v ts.place) })) by_newest (rw tells (has_verdict v (p.sets x) ts has)))) refl
 
         from : IsKept p w x r → fate_in p s.me s.hubs s.items x ts.place ≢ Pending
         from (inl h) =
             let came : HasCame (t.items h.0) x (Some r) = rw (items_at p laws net w was h.0 h.1 h.2) h.4 in
             let ok = was.holds.reply h.0 x r came in
             let tells = (kept_tells i s at x sent) r h.0 came (name_at p laws net w was h.0 h.1 h.2 ∙ ap Some h.3) in
-            settles (inl (h.0, came)) (laws.reply.is_taken ok.me ok.agreements x r ok.reply) tells.0 (λ ed. tells.1 ed s.hubs)
+            settles (inl (h.0, came)) (laws.reply.is_taken ok.me ok.agreements x r ok.reply) tells.0 (tells.1 s.hubs)
         from (inr h) =
             let d : IsRefusedWith t h.0 x r = rw (decisions_at p laws net w was h.0 h.1 h.2) h.3 in
             let ok = was.holds.refusal h.0 x r d in
-            settles (inr (h.0, d)) (laws.refusal.is_taken ok.me x r ok.refusal) (λ k. Rejects) (λ ed. (refused_tells i s at x sent) ed h.0 r d)
+            settles (inr (h.0, d)) (laws.refusal.is_taken ok.me x r ok.refusal) (λ k. result.Rejected) ((refused_tells i s at x sent) h.0 r d)
 
   -- What holds in every world.
   posted_as : (i : ℕ) (x : Bytes) (ts : PlacedTransactionSet) (s : Station) → StationAt w i s → (e : PlacedEvidence) → Contains (submissions s.items) x → Contains (p.sets x) ts → Contains (told_in p s.me s.hubs s.items x) e → e.place ≡ ts.place → PostedAs p w x ts (if counts_as_accepted e.fate then ts.bytes ∷ [] else [])

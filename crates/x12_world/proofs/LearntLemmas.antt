@@ -4,7 +4,8 @@ use mathlib.Core.Path.{sym, ap, subst, ◌∙◌}
 use mathlib.Core.Logic.{inl, inr}
 use Rattle.x12_envelopes.specs.declared.party.Party.{Party}
 use Rattle.x12_profile.specs.declared.edition.Edition.{Edition}
-use Rattle.x12_profile.specs.Result.{SetResult, fate_of_result}
+use Rattle.x12_judge.specs.declared.verdict.SetResult.{SetResult}
+use Rattle.x12_acks.specs.Evidence.{fate_of_result}
 use Rattle.x12_profile.specs.Interchange.{Bytes, PlaceOfSet, PlacedTransactionSet, PlacedEvidence, evidence_by}
 use Rattle.x12_profile.specs.Profile.{Profile}
 use Rattle.x12_profile.specs.Laws.{Laws, SharesGroup}
@@ -18,16 +19,16 @@ use Rattle.x12_world.specs.World.{World, StationAt, HubAt}
 use Rattle.x12_station.proofs.ListLemmas.{contains_map}
 use Rattle.x12_numbers.proofs.Shelf.{none_in_nil, contains_mapped}
 use Rattle.x12_world.proofs.NetworkLemmas.{believed_name, name_believed}
-use Rattle.x12_world.proofs.Traces.{Trace, IsBy, IsCarried, IsRefusedWith, Origin, submitted, replied, noted, refused, SentOk}
+use Rattle.x12_world.proofs.Traces.{Trace, IsBy, IsCarried, IsRefusedWith, newest, Origin, submitted, replied, noted, refused, SentOk}
 use Rattle.x12_world.proofs.WorldLemmas.{trace_of, Sound, read, items_in, decisions_in}
 
 -- each piece of evidence of a list that tells a verdict is the verdict's
-pub by_verdict : (v : PlaceOfSet → SetResult) (ss : List PlacedTransactionSet) (e : PlacedEvidence) → Contains (evidence_by v ss) e → (e.fate ≡ fate_of_result (v e.place)) × (s : PlacedTransactionSet) × Contains ss s × (s.place ≡ e.place)
+pub by_verdict : (v : PlaceOfSet → SetResult) (ss : List PlacedTransactionSet) (e : PlacedEvidence) → Contains (evidence_by newest v ss) e → (e.fate ≡ fate_of_result (v e.place)) × (s : PlacedTransactionSet) × Contains ss s × (s.place ≡ e.place)
 by_verdict v ss e h =
     let from = contains_map (λ (s : PlacedTransactionSet). record { place = s.place; fate = fate_of_result (v s.place) }) ss e h in
     (subst (λ z. z.fate ≡ fate_of_result (v z.place)) from.2 refl, from.0, from.1, ap (λ z. z.place) from.2)
 
-pub has_verdict : (v : PlaceOfSet → SetResult) (ss : List PlacedTransactionSet) (s : PlacedTransactionSet) → Contains ss s → Contains (evidence_by v ss) (record { place = s.place; fate = fate_of_result (v s.place) })
+pub has_verdict : (v : PlaceOfSet → SetResult) (ss : List PlacedTransactionSet) (s : PlacedTransactionSet) → Contains ss s → Contains (evidence_by newest v ss) (record { place = s.place; fate = fate_of_result (v s.place) })
 has_verdict v ss s h = contains_mapped (λ (s : PlacedTransactionSet). record { place = s.place; fate = fate_of_result (v s.place) }) ss s h
 
 module _ (p : Profile) (laws : Laws p) (net : Network) (w : World) (was : Sound p net w) where

@@ -25,7 +25,7 @@ use Rattle.std.specs.declared.cmp.Ordering.TheVariants.{Less, Equal, Greater}
 use Rattle.std.specs.Ordering.{nat_cmp, ordering_then, is_eq}
 use Rattle.x12_outbound.proofs.FirstEvidenceLemmas.{same_key}
 use Rattle.x12_outbound.specs.declared.fate.Fate.{Fate}
-use Rattle.x12_outbound.specs.declared.fate.Fate.TheVariants.{Pending, Accepted, Rejected}
+use Rattle.x12_outbound.specs.declared.fate.Fate.TheVariants.{Pending, Accepted, Noted, Rejected}
 use Rattle.x12_profile.specs.Interchange.{Bytes}
 use Rattle.x12_profile.specs.X12.{x12}
 use Rattle.x12_station.specs.History.{postings}
@@ -105,6 +105,7 @@ not_so_few n m low = elim (eqb_tells (suc (suc n)) m) [
 two_are_bad : (fate : Fate) (intact : Bool) (b c : Bytes) (bs : List Bytes) → postings_are_bad fate intact (Some (length (b ∷ c ∷ bs))) ≡ true
 two_are_bad Pending intact b c bs = ap (λ t. not (t && intact)) (not_few (length bs))
 two_are_bad Accepted intact b c bs = ap (λ t. not (t && intact)) (not_so_few (length bs) 1 (omega arith))
+two_are_bad Noted intact b c bs = ap (λ t. not (t && intact)) (not_so_few (length bs) 1 (omega arith))
 two_are_bad Rejected intact b c bs = ap (λ t. not (t && intact)) (not_so_few (length bs) 0 (omega arith))
 
 none_more : (fate : Fate) (intact : Bool) (b : Bytes) (bs : List Bytes) → postings_are_bad fate intact (Some (length (b ∷ bs))) ≡ false → bs ≡ []

@@ -4,9 +4,9 @@ use mathlib.Core.Path.{sym, ap, subst, ◌∙◌}
 use mathlib.Core.Logic.{inl, inr}
 use Rattle.std.proofs.lemmas.List.Elements.{filter_passes, All-contains}
 use Rattle.x12_envelopes.specs.declared.party.Party.{Party}
-use Rattle.x12_profile.specs.declared.edition.Edition.{Edition}
 use Rattle.x12_profile.specs.declared.edition.Edition.TheVariants.{First}
-use Rattle.x12_profile.specs.Result.{Rejects, takes, fate_of_result}
+use Rattle.x12_judge.specs.declared.verdict.SetResult.TheVariants as result
+use Rattle.x12_judge.specs.Set.{takes}
 use Rattle.x12_profile.specs.Interchange.{Bytes, PlacedTransactionSet, PlacedEvidence}
 use Rattle.x12_profile.specs.Profile.{Profile}
 use Rattle.x12_profile.specs.Laws.{Laws}
@@ -26,7 +26,7 @@ use Rattle.x12_station.proofs.ListLemmas.{contains_map, contains_filter, contain
 use Rattle.x12_numbers.proofs.Shelf.{none_in_nil, some_inj}
 use Rattle.x12_profile.proofs.PartyLemmas.{party_tells}
 use Rattle.x12_station.proofs.HistoryLemmas.{submitted_in, in_arrivals, came_in_arrivals, told_final_by, filed_found, posted_from}
-use Rattle.x12_world.proofs.Traces.{Trace, IsBy, IsRefusedWith, Origin, submitted, replied, noted, refused, Grows, CameOk, ReplyOk}
+use Rattle.x12_world.proofs.Traces.{Trace, IsBy, IsRefusedWith, newest, Origin, submitted, replied, noted, refused, Grows, CameOk, ReplyOk}
 use Rattle.x12_world.proofs.WorldLemmas.{trace_of, Sound}
 use Rattle.x12_world.proofs.LearntLemmas.{by_verdict, name_at, items_at, decisions_at, hub_of, no_hub_item}
 use Rattle.x12_world.proofs.HeadlineLemmas.{kept_tells, refused_tells, refused_nowhere, posts_nothing, posts_accepted, kept_settles}
@@ -36,9 +36,10 @@ use Rattle.x12_world.proofs.StandingLemmas.{IsExchanged, IsAcked, IsHandledBy, S
 use Rattle.x12_world.proofs.MoveLemmas.{next}
 use Rattle.x12_world.proofs.RunLemmas.{new_sound, no_item, happens_onward, happens_grows}
 use Rattle.x12_world.specs.Run.{run, happens, new_world}
-use Rattle.x12_acks.specs.Evidence.{FinalFate, accepted, rejected}
+use Rattle.x12_acks.specs.Evidence.{FinalFate, accepted, rejected, fate_of_result}
+use Rattle.x12_acks.specs.Evidence as final
 use Rattle.x12_outbound.specs.Fate.{ended}
-use Rattle.x12_outbound.specs.declared.fate.Fate.TheVariants.{Pending, Accepted, Rejected}
+use Rattle.x12_outbound.specs.declared.fate.Fate.TheVariants.{Pending, Accepted, Noted, Rejected}
 use Rattle.x12_outbound.specs.declared.fate.Fate.{Fate}
 
 module _ (p : Profile) (laws : Laws p) (net : Network) (w : World) (was : Sound p net w) (e : Exchange) (stands : Stands p (trace_of w) e) where
@@ -90,29 +91,29 @@ module _ (p : Profile) (laws : Laws p) (net : Network) (w : World) (was : Sound 
     told_by_ack : (v : ExchangeVerdict) (r : Bytes) → IsAcked p t x v r → (ev : PlacedEvidence) → Contains (told_in p s.me s.hubs s.items x) ev → Contains (arrivals s.items) r × (ev.fate ≡ fate_of_result (result_of v ev.place))
     told_by_ack v r acked ev told = by (source p laws net w was s x h to ev told) acked
       where
-        by : (ed : Edition) × (q : Bytes) × Contains (arrivals s.items) q × Contains (p.evidence ed s.hubs q x) ev × (HasCame (t.items to.0) x (Some q) ⊎ ((k : ℕ) × IsRefusedWith t k x q)) → IsAcked p t x v r → Contains (arrivals s.items) r × (ev.fate ≡ fate_of_result (result_of v ev.place))
-        by (ed, q, came, tells, inl kept) (inl a) =
+        by : (q : Bytes) × Contains (arrivals s.items) q × Contains (p.evidence newest s.hubs q x) ev × (HasCame (t.items to.0) x (Some q) ⊎ ((k : ℕ) × IsRefusedWith t k x q)) → IsAcked p t x v r → Contains (arrivals s.items) r × (ev.fate ≡ fate_of_result (result_of v ev.place))
+        by (q, came, tells, inl kept) (inl a) =
             let node = was.holds.names_apart to.0 a.0 (p.receiver x) to.1 a.1 in
             let q_is : q ≡ r = reply_inj p laws net w was x q r (sym (was.holds.filed_first a.0 x (Some q) (subst (λ j. HasCame (t.items j) x (Some q)) node kept)) ∙ was.holds.filed_first a.0 x (Some r) a.2) in
             let ks = kept_tells p laws net w was h.0 s h.1 x h.2 q to.0 kept to.1 in
-            let ve = by_verdict ks.0 (p.sets x) ev (rw (ks.1 ed s.hubs) at tells) in
+            let ve = by_verdict ks.0 (p.sets x) ev (rw (ks.1 s.hubs) at tells) in
             let value : ev.fate ≡ fate_of_result (p.result x q ev.place) = ve.0 ∙ ap fate_of_result (ap ks.0 (sym ve.3) ∙ sym (ks.2 ve.1 ve.2) ∙ ap (p.result x q) ve.3) in
             (subst (Contains (arrivals s.items)) q_is came, value ∙ ap (λ z. fate_of_result (p.result x z ev.place)) q_is ∙ ap (λ z. fate_of_result (result_of z ev.place)) (sym a.3))
-        by (ed, q, came, tells, inl kept) (inr a) = refused_nowhere p laws net w was h.0 s h.1 x h.2 a.0 r a.1 to.0 (Some q) kept
-        by (ed, q, came, tells, inr d) (inl a) = refused_nowhere p laws net w was h.0 s h.1 x h.2 d.0 q d.1 a.0 (Some r) a.2
-        by (ed, q, came, tells, inr d) (inr a) =
+        by (q, came, tells, inl kept) (inr a) = refused_nowhere p laws net w was h.0 s h.1 x h.2 a.0 r a.1 to.0 (Some q) kept
+        by (q, came, tells, inr d) (inl a) = refused_nowhere p laws net w was h.0 s h.1 x h.2 d.0 q d.1 a.0 (Some r) a.2
+        by (q, came, tells, inr d) (inr a) =
             let item = sent_item p laws net w was s x h in
             let one = refused_at_one p t was.holds x h.0 (was.holds.sent h.0 x item).by (no_hub_item p laws net w was h.0 (Submitted x) item) d.0 q d.1 a.0 r a.1 in
             let q_is : q ≡ r = refused_once p t was.holds x a.0 q r (subst (λ z. IsRefusedWith t z x q) one d.1) a.1 in
-            let ve = by_verdict (λ k. Rejects) (p.sets x) ev (rw (refused_tells p laws net w was h.0 s h.1 x h.2 ed d.0 q d.1) at tells) in
+            let ve = by_verdict (λ k. result.Rejected) (p.sets x) ev (rw (refused_tells p laws net w was h.0 s h.1 x h.2 d.0 q d.1) at tells) in
             (subst (Contains (arrivals s.items)) q_is came, ve.0 ∙ ap (λ z. fate_of_result (result_of z ev.place)) (sym a.2))
 
     no_ack_no_evidence : ((v : ExchangeVerdict) (r : Bytes) → ¬ (IsAcked p t x v r)) → told_in p s.me s.hubs s.items x ≡ []
     no_ack_no_evidence none = empty_if (told_in p s.me s.hubs s.items x) (λ ev told. by (source p laws net w was s x h to ev told))
       where
-        by : {ev : PlacedEvidence} → (ed : Edition) × (q : Bytes) × Contains (arrivals s.items) q × Contains (p.evidence ed s.hubs q x) ev × (HasCame (t.items to.0) x (Some q) ⊎ ((k : ℕ) × IsRefusedWith t k x q)) → ⊥
-        by (ed, q, came, tells, inl kept) = none (ByReceiver (p.result x q)) q (inl (to.0, to.1, kept, refl))
-        by (ed, q, came, tells, inr d) = none ByHub q (inr (d.0, d.1, refl))
+        by : {ev : PlacedEvidence} → (q : Bytes) × Contains (arrivals s.items) q × Contains (p.evidence newest s.hubs q x) ev × (HasCame (t.items to.0) x (Some q) ⊎ ((k : ℕ) × IsRefusedWith t k x q)) → ⊥
+        by (q, came, tells, inl kept) = none (ByReceiver (p.result x q)) q (inl (to.0, to.1, kept, refl))
+        by (q, came, tells, inr d) = none ByHub q (inr (d.0, d.1, refl))
 
     -- an acknowledgment that didn't come told nothing
     unhandled_no_evidence : (v : ExchangeVerdict) (r : Bytes) → IsAcked p t x v r → ¬ (IsHandledBy p t x r) → told_in p s.me s.hubs s.items x ≡ []
@@ -146,6 +147,7 @@ module _ (p : Profile) (laws : Laws p) (net : Network) (w : World) (was : Sound 
         by : (f : Fate) → fate_in p s.me s.hubs s.items x ts.place ≡ f → f ≡ ended (fate_of_result (result_of v ts.place))
         by Pending is = absurd (kept_settles p laws net w was h.0 s h.1 x ts h.2 has r (kept_of v r acked) came is)
         by Accepted is = told_so accepted is
+        by Noted is = told_so final.noted is
         by Rejected is = told_so rejected is
 
     fate_as : (ts : PlacedTransactionSet) → Contains (p.sets x) ts → (st : Standing) → StandsAs p t x st → fate_in p s.me s.hubs s.items x ts.place ≡ fate_of st ts.place

@@ -331,6 +331,7 @@ module _ (p : Profile) (net : Network) (is : IsNetwork p net) where
       at_hub = λ k d h. no_decision k d h;
       sent = λ i x h. no_item i (Submitted x) h;
       came = λ i b r h. no_item i (Came h.0 b r) h.1;
+      by_newest = λ i ed b r h. no_item i (Came ed b r) h;
       reply = λ i b r h. no_item i (Came h.0 b (Some r)) h.1;
       decision = λ k d h. no_decision k d h;
       refusal = λ k b r h. no_decision k _ h;

@@ -1,7 +1,7 @@
 -- Each step of a station is what one event may add.
 use Rattle.x12_numbers.specs.declared.book.TheConstants.{MAX_CONTROL_NUMBER}
 use Rattle.x12_numbers.specs.Book.{is_rising, latest_number}
-use Rattle.std.specs.Prelude.{◌≡◌, ◌≢◌, ℕ, ◌+◌, ◌<◌, ◌≤◌, List, [], ◌∷◌, ◌++◌, Bool, true, false, ◌&&◌, if◌then◌else◌, Option, Some, None, Contains, refl, ◌⊎◌, option_map, option_to_list, IsTrue, All, nat_lt, nat_le}
+use Rattle.std.specs.Prelude.{◌≡◌, ◌≢◌, ℕ, ◌+◌, ◌<◌, ◌≤◌, List, [], ◌∷◌, ◌++◌, Bool, true, false, ◌&&◌, if◌then◌else◌, Option, Some, None, Contains, refl, ◌⊎◌, option_map, option_to_list, IsTrue, All, nat_lt, nat_le, length}
 use mathlib.Core.Path.{sym, ap, subst, ◌∙◌}
 use mathlib.Core.Logic.{inl, inr}
 use native.Mathlib.Omega.{arith}
@@ -27,6 +27,7 @@ use Rattle.x12_station.proofs.ListLemmas.{contains_option, if_cases, contains_fi
 use Rattle.x12_numbers.proofs.Shelf.{none_in_nil, contains_cons, contains_head, bytes_eq_tells, if_some_parts, some_inj}
 use Rattle.x12_station.specs.StationRefusal.{prepared_refusal}
 use Rattle.x12_world.proofs.RefusalLemmas.{may_submit_known, is_none_known}
+use Rattle.x12_station.proofs.FateLemmas.{is_newest}
 use Rattle.x12_station.proofs.HistoryLemmas.{in_submissions, filed_found}
 use Rattle.x12_world.proofs.Traces.{Trace, IsBoxedFor, IsCarried, IsBy, IsSentIn, IsWritten, CameNews, ItemNews, FreshNews, LoadOk, Reason, submits, replies, notes, PacketOk}
 use Rattle.x12_world.proofs.WorldLemmas.{trace_of, Does, Sound, read, items_in, last_in, group_in, named_party}
@@ -179,8 +180,8 @@ module _ (p : Profile) (laws : Laws p) (net : Network) (plain : All (λ party. I
       (fresh_alone x by)
 
   module _ (m : Moment) (b : Bytes) (brought : Brought p t i b) (header : IsTrue (p.has_header b)) (first : List Packet) (only : OnlyTaken first) where
-    came : filed p s.items (p.sender b) (p.number b) ≡ None → CameNews p t i b
-    came none = record { ok = record { header = header; carried = brought.carried; routed = brought.routed }; first = rw items_is none }
+    came : filed p s.items (p.sender b) (p.number b) ≡ None → CameNews p t i (edition_next s) b
+    came none = record { by_newest = is_newest (length s.items); ok = record { header = header; carried = brought.carried; routed = brought.routed }; first = rw items_is none }
 
     abbrev DoesStep : StationStep → Type 0
     DoesStep step = Does p t i (IsStation s) (IsStation step.station) (first ++ deposits site step.sends)

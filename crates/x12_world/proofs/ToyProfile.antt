@@ -1,6 +1,7 @@
 -- A tiny profile that meets every law: a party is a qualifier of one number; an interchange is a list of its kind (0 a
 -- submission, 1 a reply, 2 a refusal), sender, receiver, number; then, of an acknowledgment, the number that it answers and whether it
--- accepts (1). A submission has one set, and its receiver accepts it where it has any agreement.
+-- accepts (1), with errors noted (2), or rejects (0). A submission has one set. Its receiver accepts it where it has any agreement, and
+-- notes errors where an agreement is lenient.
 use Rattle.std.specs.Prelude.{◌≡◌, ◌≢◌, ◌⊎◌, ℕ, List, [], ◌∷◌, Bool, true, false, not, ◌&&◌, ◌||◌, ◌==◌, if◌then◌else◌, Contains, refl, length, filter, slice_index}
 use Rattle.std.specs.List.{list_any}
 use mathlib.Core.Path.{sym, ap, ap₂, subst, ◌∙◌}
@@ -11,7 +12,10 @@ use Rattle.x12_envelopes.specs.declared.party.Party.{Party}
 use Rattle.x12_judge.specs.Agreement.{TradingAgreement, is_same_party}
 use Rattle.x12_envelopes.specs.declared.moment.Moment.{Moment}
 use Rattle.x12_profile.specs.declared.edition.Edition.{Edition}
-use Rattle.x12_profile.specs.Result.{Rejects, result_if, takes}
+use Rattle.x12_judge.specs.declared.verdict.SetResult.{SetResult}
+use Rattle.x12_judge.specs.declared.verdict.SetResult.TheVariants.{Rejected}
+use Rattle.x12_judge.specs.Set.{takes}
+use Rattle.x12_acks.specs.Told.{result_if}
 use Rattle.x12_profile.specs.Interchange.{Bytes, PlaceOfSet, PlacedTransactionSet, PlacedEvidence, Book, is_place, evidence_by}
 use Rattle.x12_profile.specs.Profile.{Profile}
 use Rattle.x12_profile.specs.Laws.{Laws, SubmissionLaws, ReplyLaws, RefusalLaws}
@@ -56,8 +60,16 @@ has (a ∷ agreements) = true
 abbrev agrees : Party → List TradingAgreement → Bytes → Bool
 agrees me agreements b = is_sub b && is_same_party (to b) me && has agreements
 
+-- whether some agreement is lenient
+abbrev notes : List TradingAgreement → Bool
+notes agreements = list_any (λ a. a.lenient) agreements
+
+-- what an acknowledgment says, and what that stands for
 abbrev flag : Party → List TradingAgreement → Bytes → ℕ
-flag me agreements b = if agrees me agreements b then 1 else 0
+flag me agreements b = if agrees me agreements b then (if notes agreements then 2 else 1) else 0
+
+abbrev flagged : ℕ → SetResult
+flagged n = result_if (n == 2) (not (n == 0))
 
 abbrev pub toy : Profile
 toy = record {
@@ -70,12 +82,12 @@ toy = record {
   is_submission = is_sub;
   is_silent = λ b. not (is_sub b);
   refuses = λ ed me b. not (is_same_party (to b) me);
-  verdict = λ ed me agreements x k. result_if (agrees me agreements x);
+  verdict = λ ed me agreements x k. result_if (notes agreements) (agrees me agreements x);
   needs = λ ed me agreements b. record { reply = is_sub b; group = is_sub b };
   reply = λ ed me agreements at book b. 1 ∷ digit me ∷ nth b 1 ∷ book.interchange ∷ nth b 3 ∷ flag me agreements b ∷ [];
   refusal = λ note me at icn b. 2 ∷ digit me ∷ nth b 1 ∷ icn ∷ nth b 3 ∷ 0 ∷ [];
-  evidence = λ ed hubs b x. if tells_of hubs b x then evidence_by (λ k. result_if (nth b 5 == 1)) (sets_of x) else [];
-  result = λ b r k. result_if (is_sub b && is_same_party (to b) (from r) && (nth r 5 == 1));
+  evidence = λ ed hubs b x. if tells_of hubs b x then evidence_by ed (λ k. flagged (nth b 5)) (sets_of x) else [];
+  result = λ b r k. result_if (nth r 5 == 2) (is_sub b && is_same_party (to b) (from r) && not (nth r 5 == 0));
   pieces = λ ed hubs xs b. [];
   unclear = λ b. 0;
   may_order = λ partner texts. true;
@@ -116,7 +128,7 @@ any_contains a (n ∷ names) e = elim (or_cases (is_same_party a n) (list_any (i
 answers : (ed : Edition) (hubs : List Party) (b x : Bytes) (e : PlacedEvidence) → Contains (toy.evidence ed hubs b x) e → tells_of hubs b x ≡ true
 answers ed hubs b x e h = by (tells_of hubs b x) h
   where
-    by : (t : Bool) → Contains (if t then evidence_by (λ k. result_if (nth b 5 == 1)) (sets_of x) else []) e → t ≡ true
+    by : (t : Bool) → Contains (if t then evidence_by ed (λ k. flagged (nth b 5)) (sets_of x) else []) e → t ≡ true
     by true k = refl
     by false k = none_in_nil e k
 
@@ -143,24 +155,30 @@ submission_laws = record {
     no_nil : {n : ℕ} → n ∷ [] ≡ [] → ⊥
     no_nil e = cc
 
-test_one : (t : Bool) → ((if t then 1 else 0) == 1) ≡ t
-test_one true = refl
-test_one false = refl
+told_flag : (lenient agreed : Bool) → flagged (if agreed then (if lenient then 2 else 1) else 0) ≡ result_if lenient agreed
+told_flag true true = refl
+told_flag false true = refl
+told_flag lenient false = refl
 
-tells_own : (ed by : Edition) (a : List TradingAgreement) (m : Moment) (book : Book) (hubs : List Party) (x : Bytes) → toy.evidence ed hubs (toy.reply by (to x) a m book x) x ≡ evidence_by (toy.verdict by (to x) a x) (toy.sets x)
-tells_own ed by a m book hubs x = rw (eq_itself (nth x 3), test_one (agrees (to x) a x), eq_itself (nth x 2)) refl
+tells_own : (ed by : Edition) (a : List TradingAgreement) (m : Moment) (book : Book) (hubs : List Party) (x : Bytes) → toy.evidence ed hubs (toy.reply by (to x) a m book x) x ≡ evidence_by ed (toy.verdict by (to x) a x) (toy.sets x)
+tells_own ed by a m book hubs x = rw (eq_itself (nth x 3), told_flag (notes a) (agrees (to x) a x), eq_itself (nth x 2)) refl
 
--- what a reply by this party accepts
-accepts_by : (s t h : Bool) → (s && t && (s && t && h)) ≡ (s && t && h)
-accepts_by true true h = refl
-accepts_by true false h = refl
-accepts_by false t h = refl
+-- what a reply by this party says of the set
+abbrev flag_by : (s t h lenient : Bool) → ℕ
+flag_by s t h lenient = if s && t && h then (if lenient then 2 else 1) else 0
 
-accepts_from : (q me : Party) (a : List TradingAgreement) (x : Bytes) → q ≡ me → (is_sub x && is_same_party (to x) q && (flag me a x == 1)) ≡ agrees me a x
-accepts_from q me a x plain = rw (plain, test_one (agrees me a x)) (accepts_by (is_sub x) (is_same_party (to x) me) (has a))
+says_by : (s t h lenient : Bool) → result_if (flag_by s t h lenient == 2) (s && t && not (flag_by s t h lenient == 0)) ≡ result_if lenient (s && t && h)
+says_by true true true true = refl
+says_by true true true false = refl
+says_by true true false lenient = refl
+says_by true false h lenient = refl
+says_by false t h lenient = refl
+
+says_from : (q me : Party) (a : List TradingAgreement) (x : Bytes) → q ≡ me → result_if (flag me a x == 2) (is_sub x && is_same_party (to x) q && not (flag me a x == 0)) ≡ result_if (notes a) (agrees me a x)
+says_from q me a x plain = ap (λ z. result_if (flag me a x == 2) (is_sub x && is_same_party (to x) z && not (flag me a x == 0))) plain ∙ says_by (is_sub x) (is_same_party (to x) me) (has a) (notes a)
 
 accepts_own : (ed : Edition) (me : Party) (a : List TradingAgreement) (m : Moment) (book : Book) (x : Bytes) (k : PlaceOfSet) → party (digit me) ≡ me → toy.result x (toy.reply ed me a m book x) k ≡ toy.verdict ed me a x k
-accepts_own ed me a m book x k plain = ap result_if (accepts_from (party (digit me)) me a x plain)
+accepts_own ed me a m book x k plain = says_from (party (digit me)) me a x plain
 
 accepts_no_group : (b r : Bytes) (k : PlaceOfSet) → is_sub b ≡ true → toy.groups b ≡ [] → takes (toy.result b r k) ≡ false
 accepts_no_group b r k sub none = absurd (no_nil (rw sub at none))
@@ -186,13 +204,13 @@ reply_laws = record {
   no_groups = λ me a b r w. ap toy.groups w.bytes;
   about = λ me a b r w ed hubs x e h. inl (sym (ap (λ z. nth z 4) w.bytes) ∙ (parts hubs r x (answers ed hubs r x e h)).1);
   is_taken = λ me a x r w ed. ap (toy.refuses ed (from x)) w.bytes ∙ rw (same_party_itself (from x)) refl;
-  tells = λ me a x r w sub n rises own ed hubs. ap (λ z. toy.evidence ed hubs z x) w.bytes ∙ subst (λ z. toy.evidence ed hubs (toy.reply w.edition z a w.at w.book x) x ≡ evidence_by (toy.verdict w.edition z a x) (toy.sets x)) own (tells_own ed w.edition a w.at w.book hubs x);
+  tells = λ me a x r w sub n rises own ed hubs. ap (λ z. toy.evidence ed hubs z x) w.bytes ∙ subst (λ z. toy.evidence ed hubs (toy.reply w.edition z a w.at w.book x) x ≡ evidence_by ed (toy.verdict w.edition z a x) (toy.sets x)) own (tells_own ed w.edition a w.at w.book hubs x);
   result = λ me a b r w k. ap (λ z. toy.result b z k) w.bytes ∙ accepts_own w.edition me a w.at w.book b k (one_number me w.plain);
   accepts_no_group = λ me a b r w none k. accepts_no_group b r k w.due none;
-  accepts_no_other = λ me a b r w other k. ap takes (ap (λ z. toy.result b z k) w.bytes ∙ accepts_own w.edition me a w.at w.book b k (one_number me w.plain)) ∙ ap (λ t. takes (result_if t)) (takes_no_other me a b other);
+  accepts_no_other = λ me a b r w other k. ap takes (ap (λ z. toy.result b z k) w.bytes ∙ accepts_own w.edition me a w.at w.book b k (one_number me w.plain)) ∙ ap (λ t. takes (result_if (notes a) t)) (takes_no_other me a b other);
 }
 
-rejects_all : (ed : Edition) (note : ℕ) (me : Party) (m : Moment) (icn : ℕ) (hubs : List Party) (x : Bytes) → party (digit me) ≡ me → Contains hubs me → toy.evidence ed hubs (toy.refusal note me m icn x) x ≡ evidence_by (λ k. Rejects) (toy.sets x)
+rejects_all : (ed : Edition) (note : ℕ) (me : Party) (m : Moment) (icn : ℕ) (hubs : List Party) (x : Bytes) → party (digit me) ≡ me → Contains hubs me → toy.evidence ed hubs (toy.refusal note me m icn x) x ≡ evidence_by ed (λ k. Rejected) (toy.sets x)
 rejects_all ed note me m icn hubs x plain hub =
     let known : list_any (is_same_party (party (digit me))) hubs ≡ true = hub_known (party (digit me)) hubs (rw plain hub) in
     rw (eq_itself (nth x 3), known, or_true_right (is_same_party (party (digit me)) (to x))) refl

@@ -1,4 +1,5 @@
--- Runs of two stations under the tiny profile, with one hub and with two: an order that is accepted, and one that is rejected.
+-- Runs of two stations under the tiny profile, with one hub and with two: an order that is accepted, one that is noted, and one that is
+-- rejected.
 use Rattle.std.specs.Prelude.{◌≢◌, ℕ, zero, suc, ◌+◌, ◌<◌, Bool, false, All, List, [], ◌∷◌, Option, Some, None, refl, length, slice_index, slice_index_or, IsTrue, codes, ◌≡◌, true}
 use mathlib.Core.Path.{ap, sym, subst, ◌∙◌}
 use mathlib.Core.Logic.{inl, inr}
@@ -10,6 +11,7 @@ use Rattle.std.proofs.lemmas.List.Elements.{All-nil, All-cons}
 use Rattle.x12_envelopes.specs.declared.party.Party.{Party}
 use Rattle.x12_judge.specs.Agreement.{TradingAgreement}
 use Rattle.x12_envelopes.specs.declared.moment.Moment.{Moment}
+use Rattle.x12_profile.specs.Edition.{edition_at}
 use Rattle.x12_profile.specs.Interchange.{Bytes}
 use Rattle.x12_station.specs.Station.{Station, new_station}
 use Rattle.x12_core.specs.Action.{Prepared, Collect, Agree, Enrol, Restart}
@@ -22,7 +24,7 @@ use Rattle.x12_world.specs.Network.{Member, Network, IsNetwork, IsHubNumber, par
 use Rattle.std.specs.List.{AllPairs}
 use Rattle.x12_world.specs.Nodes.{node_at}
 use Rattle.x12_world.specs.Run.{new_world, run}
-use Rattle.x12_outbound.specs.declared.fate.Fate.TheVariants.{Accepted, Rejected}
+use Rattle.x12_outbound.specs.declared.fate.Fate.TheVariants.{Accepted, Noted, Rejected}
 
 on_a_day : text_is_date (codes "20260101") ≡ true
 unfolding text_is_date value_of_digits
@@ -100,8 +102,8 @@ order = 0 ∷ 1 ∷ 2 ∷ 1 ∷ []
 abbrev packet : ℕ → ℕ → Event
 packet event place = Deliver (record { event = event; place = place }) moment
 
-abbrev agreement : TradingAgreement
-agreement = record { partner = party 1; pairs = ([], []) ∷ [] }
+abbrev agreement : Bool → TradingAgreement
+agreement lenient = record { partner = party 1; lenient = lenient; pairs = ([], []) ∷ [] }
 
 abbrev begun : Option Party → ℕ → World
 begun second home = new_world (net_of second home)
@@ -128,9 +130,12 @@ station_in (Some (IsStation s)) = s
 abbrev sender_in : World → Station
 sender_in w = station_in (node_at w.nodes 1)
 
--- the receiver agrees first, or it doesn't
+-- the receiver agrees first, strictly or leniently, or it doesn't
 abbrev agreed : Event
-agreed = At 2 (Agree agreement)
+agreed = At 2 (Agree (agreement false))
+
+abbrev agreed_leniently : Event
+agreed_leniently = At 2 (Agree (agreement true))
 
 abbrev not_agreed : Event
 not_agreed = At 2 Restart
@@ -141,13 +146,16 @@ one_network = network None hub_node 3 refl (inl refl)
 two_network : IsNetwork toy (net_of (Some (party 3)) second_hub_node)
 two_network = network (Some (party 3)) second_hub_node 4 refl (inr (refl, search))
 
-fates : (has_two : Bool) → Reaches toy has_two Accepted × Reaches toy has_two Rejected
+fates : (has_two : Bool) → Reaches toy has_two Accepted × Reaches toy has_two Noted × Reaches toy has_two Rejected
+unfolding edition_at
 fates false = (
   (net_of None hub_node, one_network, refl, over_one agreed, 1, order, the_set order, (sender_in (run toy (over_one agreed) one_hub), refl, contains_head order [], contains_head (the_set order) [], refl)),
+  (net_of None hub_node, one_network, refl, over_one agreed_leniently, 1, order, the_set order, (sender_in (run toy (over_one agreed_leniently) one_hub), refl, contains_head order [], contains_head (the_set order) [], refl)),
   (net_of None hub_node, one_network, refl, over_one not_agreed, 1, order, the_set order, (sender_in (run toy (over_one not_agreed) one_hub), refl, contains_head order [], contains_head (the_set order) [], refl)),
 )
 fates true = (
   (net_of (Some (party 3)) second_hub_node, two_network, refl, over_two agreed, 1, order, the_set order, (sender_in (run toy (over_two agreed) two_hubs), refl, contains_head order [], contains_head (the_set order) [], refl)),
+  (net_of (Some (party 3)) second_hub_node, two_network, refl, over_two agreed_leniently, 1, order, the_set order, (sender_in (run toy (over_two agreed_leniently) two_hubs), refl, contains_head order [], contains_head (the_set order) [], refl)),
   (net_of (Some (party 3)) second_hub_node, two_network, refl, over_two not_agreed, 1, order, the_set order, (sender_in (run toy (over_two not_agreed) two_hubs), refl, contains_head order [], contains_head (the_set order) [], refl)),
 )
 

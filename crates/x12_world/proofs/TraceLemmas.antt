@@ -18,7 +18,7 @@ use Rattle.x12_station.proofs.ListLemmas.{contains_option, contains_some}
 use Rattle.x12_numbers.proofs.Shelf.{contains_head}
 use Rattle.x12_world.proofs.DecidedLemmas.{decided_stays, decided_last}
 use Rattle.x12_station.proofs.HistoryLemmas.{filed_stays, filed_last, after_append, PostedByFiled, posted_next}
-use Rattle.x12_world.proofs.Traces.{IsCame, Answers, CameNews, CameOk, DecidedOk, DecisionNews, FreshNews, Grows, Holds, IsBoxedFor, IsBy, IsCarried, IsSentIn, IsWritten, ItemNews, LoadOk, Origin, Reason, RefusalOk, ReplyOk, SentOk, Trace, noted, notes, refused, refuses, replied, replies, submits, submitted}
+use Rattle.x12_world.proofs.Traces.{IsCame, Answers, CameNews, CameOk, DecidedOk, DecisionNews, FreshNews, Grows, Holds, IsBoxedFor, IsBy, IsCarried, IsSentIn, IsWritten, ItemNews, LoadOk, newest, Origin, Reason, RefusalOk, ReplyOk, SentOk, Trace, noted, notes, refused, refuses, replied, replies, submits, submitted}
 
 module _ (p : Profile) (t t' : Trace) (g : Grows p t t') (was : Holds p t) where
   pub fresh_news : (f : Bytes) → g.fresh ≡ Some f → FreshNews p t g.node (t'.last g.node) (Some f)
@@ -60,12 +60,15 @@ module _ (p : Profile) (t t' : Trace) (g : Grows p t t') (was : Holds p t) where
     rises = ok.0.rises;
   }
 
-  came_news : (ed : Edition) (b : Bytes) (k r : Option Bytes) → k ≡ r → ItemNews p t g.node (t'.group g.node) g.fresh g.packets (Some (Came ed b k)) → CameNews p t g.node b
+  came_news : (ed : Edition) (b : Bytes) (k r : Option Bytes) → k ≡ r → ItemNews p t g.node (t'.group g.node) g.fresh g.packets (Some (Came ed b k)) → CameNews p t g.node ed b
   came_news ed b None r e ok = ok
   came_news ed b (Some q) r e ok = ok.0
 
   pub came_ok : (b : Bytes) (r : Option Bytes) → IsCame g.new b r → CameOk p t g.node b
   came_ok b r e = (came_news e.0 b r r refl (item_news (Came e.0 b r) e.1)).ok
+
+  new_by_newest : (ed : Edition) (b : Bytes) (r : Option Bytes) → g.new ≡ Some (Came ed b r) → ed ≡ newest
+  new_by_newest ed b r e = (came_news ed b r r refl (item_news (Came ed b r) e)).by_newest
 
   pub came_new : (b : Bytes) (r : Option Bytes) → IsCame g.new b r → filed p (t.items g.node) (p.sender b) (p.number b) ≡ None
   came_new b r e = (came_news e.0 b r r refl (item_news (Came e.0 b r) e.1)).first
@@ -374,6 +377,7 @@ module _ (p : Profile) (t t' : Trace) (g : Grows p t t') (was : Holds p t) where
     at_hub = λ k d h. hub_later k true (elim (decision_cases k d h) [ inl old ↦ was.at_hub k d old | inr new ↦ subst (λ i. t.hub i ≡ true) (sym new.0) (decides_here d new.1) ]);
     sent = λ i x h. elim (item_cases i (Submitted x) h) [ inl old ↦ sent_later i x (was.sent i x old) | inr new ↦ subst (λ k. SentOk p t' k x) (sym new.0) (sent_ok x new.1) ];
     came = λ i b r h. elim (came_cases i b r h) [ inl old ↦ came_later i b (was.came i b r old) | inr new ↦ subst (λ k. CameOk p t' k b) (sym new.0) (came_later g.node b (came_ok b r new.1)) ];
+    by_newest = λ i ed b r h. elim (item_cases i (Came ed b r) h) [ inl old ↦ was.by_newest i ed b r old | inr new ↦ new_by_newest ed b r new.1 ];
     reply = λ i b r h. elim (came_cases i b (Some r) h) [ inl old ↦ reply_later i b r (was.reply i b r old) | inr new ↦ subst (λ k. ReplyOk p t' k b r) (sym new.0) (reply_ok b r new.1) ];
     decision = λ k d h. decided_later k d.body (elim (decision_cases k d h) [ inl old ↦ was.decision k d old | inr new ↦ subst (λ i. DecidedOk p t i d.body) (sym new.0) (decision_news d new.1).1 ]);
     refusal = λ k b r h. refusal_later k b r (elim (decision_cases k (record { body = b; outcome = Refused r }) h) [

@@ -5,6 +5,7 @@ use Rattle.std.specs.Prelude.{◌≡◌, ◌≢◌, ℕ, ◌<◌, ◌≤◌, Lis
 use Rattle.x12_envelopes.specs.declared.party.Party.{Party}
 use Rattle.x12_judge.specs.Agreement.{TradingAgreement}
 use Rattle.x12_profile.specs.declared.edition.Edition.{Edition}
+use Rattle.x12_profile.specs.declared.edition.Edition.TheVariants.{Second}
 use Rattle.x12_profile.specs.Interchange.{Bytes}
 use Rattle.x12_profile.specs.Profile.{Profile}
 use Rattle.x12_profile.specs.Laws.{IsReply, IsTa1Refusal, SharesGroup}
@@ -24,6 +25,10 @@ pub record Trace : Type 0 where
   pub group : ℕ → ℕ
   pub decisions : ℕ → List Decision
   pub packets : List Packet
+
+-- the edition by which every arrival of a network is judged and read
+abbrev pub newest : Edition
+newest = Second
 
 -- some packet ever sent carries b
 pub record IsCarried (t : Trace) (b : Bytes) : Type 0 where
@@ -119,6 +124,7 @@ module _ (p : Profile) where
     pub at_hub : (k : ℕ) (d : Decision) → Contains (t.decisions k) d → t.hub k ≡ true
     pub sent : (i : ℕ) (x : Bytes) → Contains (t.items i) (Submitted x) → SentOk t i x
     pub came : (i : ℕ) (b : Bytes) (r : Option Bytes) → HasCame (t.items i) b r → CameOk t i b
+    pub by_newest : (i : ℕ) (ed : Edition) (b : Bytes) (r : Option Bytes) → Contains (t.items i) (Came ed b r) → ed ≡ newest
     pub reply : (i : ℕ) (b r : Bytes) → HasCame (t.items i) b (Some r) → ReplyOk t i b r
     pub decision : (k : ℕ) (d : Decision) → Contains (t.decisions k) d → DecidedOk t k d.body
     pub refusal : (k : ℕ) (b r : Bytes) → IsRefusedWith t k b r → RefusalOk t k b r
@@ -141,8 +147,9 @@ module _ (p : Profile) where
     pub rises : IsTrue (is_rising from (p.groups x))
     pub groups : (g : ℕ) → Contains (p.groups x) g → (t.group node < g) × (g ≤ group)
 
-  -- an arrival is the first under its number
-  pub record CameNews (t : Trace) (node : ℕ) (b : Bytes) : Type 0 where
+  -- an arrival is the first under its number, and read by the newest edition
+  pub record CameNews (t : Trace) (node : ℕ) (ed : Edition) (b : Bytes) : Type 0 where
+    pub by_newest : ed ≡ newest
     pub ok : CameOk t node b
     pub first : filed p (t.items node) (p.sender b) (p.number b) ≡ None
 
@@ -155,8 +162,8 @@ module _ (p : Profile) where
   abbrev pub ItemNews : Trace → ℕ → ℕ → Option Bytes → List Packet → Option Item → Type 0
   ItemNews t node group fresh packets None = Unit {0}
   ItemNews t node group fresh packets (Some (Submitted x)) = SentNews t node x group × (fresh ≡ Some x) × IsSentIn packets x
-  ItemNews t node group fresh packets (Some (Came ed b None)) = CameNews t node b
-  ItemNews t node group fresh packets (Some (Came ed b (Some r))) = CameNews t node b × ReplyNews t node b r × (fresh ≡ Some r) × IsSentIn packets r
+  ItemNews t node group fresh packets (Some (Came ed b None)) = CameNews t node ed b
+  ItemNews t node group fresh packets (Some (Came ed b (Some r))) = CameNews t node ed b × ReplyNews t node b r × (fresh ≡ Some r) × IsSentIn packets r
 
   abbrev pub OutcomeNews : Trace → ℕ → Option Bytes → Bytes → HubOutcome → Type 0
   OutcomeNews t node fresh b (Boxed to item) = Unit {0}

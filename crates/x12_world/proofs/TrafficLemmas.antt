@@ -3,7 +3,8 @@ use Rattle.std.specs.Prelude.{◌≡◌, ℕ, false, Option, Some, None, Contain
 use mathlib.Core.Path.{sym, ap, subst, ◌∙◌}
 use mathlib.Core.Logic.{inl, inr}
 use Rattle.x12_profile.specs.declared.edition.Edition.{Edition}
-use Rattle.x12_profile.specs.Result.{Rejects, fate_of_result}
+use Rattle.x12_judge.specs.declared.verdict.SetResult.TheVariants.{Rejected}
+use Rattle.x12_acks.specs.Evidence.{fate_of_result}
 use Rattle.x12_profile.specs.Interchange.{Bytes, PlacedEvidence}
 use Rattle.x12_profile.specs.Profile.{Profile}
 use Rattle.x12_profile.specs.Laws.{Laws}
@@ -22,7 +23,7 @@ use Rattle.x12_world.specs.Traffic.{IsBoxedFor, IsNode, WasSent, HasSubmitted, T
 use Rattle.x12_world.specs.Conflict.{NoConflict}
 use Rattle.x12_numbers.proofs.Shelf.{contains_mapped, none_in_nil, some_inj}
 use Rattle.x12_station.proofs.HistoryLemmas.{in_submissions, came_in_arrivals, after_in_items, told_found, filed_found}
-use Rattle.x12_world.proofs.Traces.{Trace, IsCarried, IsBy, IsRefusedWith, LoadOk}
+use Rattle.x12_world.proofs.Traces.{Trace, IsCarried, IsBy, IsRefusedWith, LoadOk, newest}
 use Rattle.x12_world.proofs.WorldLemmas.{trace_of, Sound}
 use Rattle.x12_world.proofs.LearntLemmas.{by_verdict, name_at, items_at, decisions_at, hub_believed, hub_of, learnt, learnt_at}
 use Rattle.x12_world.proofs.HeadlineLemmas.{kept_tells, refused_tells, refused_nowhere}
@@ -89,22 +90,22 @@ module _ (p : Profile) (laws : Laws p) (net : Network) (w : World) (was : Sound 
 
   -- what was told came from one of the two
   pub source : (s : Station) (x : Bytes) (h : HasSubmitted w s x) (to : IsNode w (p.receiver x)) (e : PlacedEvidence) (told : Contains (told_in p s.me s.hubs s.items x) e)
-      → (ed : Edition) × (r : Bytes) × Contains (arrivals s.items) r × Contains (p.evidence ed s.hubs r x) e × (HasCame (t.items to.0) x (Some r) ⊎ ((k : ℕ) × IsRefusedWith t k x r))
+      → (r : Bytes) × Contains (arrivals s.items) r × Contains (p.evidence newest s.hubs r x) e × (HasCame (t.items to.0) x (Some r) ⊎ ((k : ℕ) × IsRefusedWith t k x r))
   source s x h to e told =
       let from = told_found p s.me s.hubs s.items x e told in
       let came : HasCame s.items from.1 from.2 = (from.0, after_in_items s.items x (Came from.0 from.1 from.2) from.3) in
-      let ok = was.holds.came h.0 from.1 from.2 (rw (items_at p laws net w was h.0 s h.1) came) in (
-        from.0,
+      let here : HasCame (t.items h.0) from.1 from.2 = rw (items_at p laws net w was h.0 s h.1) came in
+      let ok = was.holds.came h.0 from.1 from.2 here in (
         from.1,
         came_in_arrivals s.items from.1 from.2 came,
-        from.5,
+        subst (λ ed. Contains (p.evidence ed s.hubs from.1 x) e) (was.holds.by_newest h.0 from.0 from.1 from.2 here.1) from.5,
         learnt p laws net w was from.0 h.0 s.me (name_at p laws net w was h.0 s h.1) x from.1 (sent_item s x h) ok.header ok.carried from.4 s.hubs e from.5 to.0 to.1 (hub_believed p laws net w was h.0 s h.1),
       )
 
   learnt_of : (s : Station) (x : Bytes) → HasSubmitted w s x → IsNode w (p.receiver x) → (e : PlacedEvidence) → Contains (told_in p s.me s.hubs s.items x) e → (ed : Edition) × (r : Bytes) × Contains (arrivals s.items) r × IsKept p w x r × Contains (p.evidence ed s.hubs r x) e
   learnt_of s x h to e told =
       let from = source s x h to e told in
-      (from.0, from.1, from.2, is from.1 from.4, from.3)
+      (newest, from.0, from.1, is from.0 from.3, from.2)
     where
       is : (r : Bytes) → (HasCame (t.items to.0) x (Some r) ⊎ ((k : ℕ) × IsRefusedWith t k x r)) → IsKept p w x r
       is r (inl came) =
@@ -130,22 +131,22 @@ module _ (p : Profile) (laws : Laws p) (net : Network) (w : World) (was : Sound 
   one s x h to e f te tf place =
       let a = source s x h to e te in
       let b = source s x h to f tf in
-      both a.0 a.1 a.3 a.4 b.0 b.1 b.3 b.4
+      both a.0 a.2 a.3 b.0 b.2 b.3
     where
-      both : (ed : Edition) (r : Bytes) → Contains (p.evidence ed s.hubs r x) e → (HasCame (t.items to.0) x (Some r) ⊎ ((k : ℕ) × IsRefusedWith t k x r))
-          → (by : Edition) (q : Bytes) → Contains (p.evidence by s.hubs q x) f → (HasCame (t.items to.0) x (Some q) ⊎ ((k : ℕ) × IsRefusedWith t k x q)) → e.fate ≡ f.fate
-      both ed r er (inl cr) by q fq (inl cq) =
+      both : (r : Bytes) → Contains (p.evidence newest s.hubs r x) e → (HasCame (t.items to.0) x (Some r) ⊎ ((k : ℕ) × IsRefusedWith t k x r))
+          → (q : Bytes) → Contains (p.evidence newest s.hubs q x) f → (HasCame (t.items to.0) x (Some q) ⊎ ((k : ℕ) × IsRefusedWith t k x q)) → e.fate ≡ f.fate
+      both r er (inl cr) q fq (inl cq) =
           let filed_one : ◌≡◌ {A = Option KeptArrival} (Some (record { body = x; reply = Some r })) (Some (record { body = x; reply = Some q })) = sym (was.holds.filed_first to.0 x (Some r) cr) ∙ was.holds.filed_first to.0 x (Some q) cq in
           let same : r ≡ q = reply_inj x r q filed_one in
           let tells = kept_tells p laws net w was h.0 s h.1 x h.2 r to.0 cr to.1 in
-          let ve = by_verdict tells.0 (p.sets x) e (rw (tells.1 ed s.hubs) at er) in
-          let vf = by_verdict tells.0 (p.sets x) f (rw (tells.1 by s.hubs) at (subst (λ z. Contains (p.evidence by s.hubs z x) f) (sym same) fq)) in
+          let ve = by_verdict tells.0 (p.sets x) e (rw (tells.1 s.hubs) at er) in
+          let vf = by_verdict tells.0 (p.sets x) f (rw (tells.1 s.hubs) at (subst (λ z. Contains (p.evidence newest s.hubs z x) f) (sym same) fq)) in
           ve.0 ∙ ap (λ z. fate_of_result (tells.0 z)) place ∙ sym vf.0
-      both ed r er (inl cr) by q fq (inr dq) = refused_nowhere p laws net w was h.0 s h.1 x h.2 dq.0 q dq.1 to.0 (Some r) cr
-      both ed r er (inr dr) by q fq (inl cq) = refused_nowhere p laws net w was h.0 s h.1 x h.2 dr.0 r dr.1 to.0 (Some q) cq
-      both ed r er (inr dr) by q fq (inr dq) =
-          let ve = by_verdict (λ k. Rejects) (p.sets x) e (rw (refused_tells p laws net w was h.0 s h.1 x h.2 ed dr.0 r dr.1) at er) in
-          let vf = by_verdict (λ k. Rejects) (p.sets x) f (rw (refused_tells p laws net w was h.0 s h.1 x h.2 by dq.0 q dq.1) at fq) in
+      both r er (inl cr) q fq (inr dq) = refused_nowhere p laws net w was h.0 s h.1 x h.2 dq.0 q dq.1 to.0 (Some r) cr
+      both r er (inr dr) q fq (inl cq) = refused_nowhere p laws net w was h.0 s h.1 x h.2 dr.0 r dr.1 to.0 (Some q) cq
+      both r er (inr dr) q fq (inr dq) =
+          let ve = by_verdict (λ k. Rejected) (p.sets x) e (rw (refused_tells p laws net w was h.0 s h.1 x h.2 dr.0 r dr.1) at er) in
+          let vf = by_verdict (λ k. Rejected) (p.sets x) f (rw (refused_tells p laws net w was h.0 s h.1 x h.2 dq.0 q dq.1) at fq) in
           ve.0 ∙ sym vf.0
 
   other : (b : Bytes) → WasSent w b → IsNode w (p.sender b) → (j : ℕ) (s : Station) → StationAt w j s → (f : KeptArrival) → filed p s.items (p.sender b) (p.number b) ≡ Some f → f.body ≡ b

@@ -2,7 +2,10 @@
 -- restarts. A world refines it: each event is one of its three steps or none.
 use Rattle.std.specs.Prelude.{◌≡◌, ◌≢◌, ◌⊎◌, ◌↔◌, ℕ, List, [], ◌∷◌, Bool, false, if◌then◌else◌, Contains}
 use Rattle.x12_envelopes.specs.declared.party.Party.{Party}
-use Rattle.x12_profile.specs.Result.{SetResult, Rejects, takes, fate_of_result}
+use Rattle.x12_judge.specs.declared.verdict.SetResult.{SetResult}
+use Rattle.x12_judge.specs.declared.verdict.SetResult.TheVariants.{Rejected}
+use Rattle.x12_judge.specs.Set.{takes}
+use Rattle.x12_acks.specs.Evidence.{fate_of_result}
 use Rattle.x12_profile.specs.Interchange.{Bytes, PlaceOfSet, PlacedTransactionSet}
 use Rattle.x12_profile.specs.Profile.{Profile}
 use Rattle.x12_station.specs.History.{Posting, fate_in, postings, posted_under, key_of, posting_of}
@@ -23,7 +26,7 @@ pub data ExchangeVerdict : Type 0 where
 -- what a verdict says of the set at a place
 abbrev pub result_of : ExchangeVerdict → PlaceOfSet → SetResult
 result_of (ByReceiver v) k = v k
-result_of ByHub k = Rejects
+result_of ByHub k = Rejected
 
 -- how far an interchange is: not submitted; submitted; its verdict written; and learnt by its
 -- sender

@@ -51,10 +51,10 @@ fn network_answers(network: &MemoryWorld)
 /// its place from 0. What that promises while records answer holds here without a premise.
 ///
 /// Whatever was submitted, delivered, lost, repeated and restarted: a transaction set that its sender
-/// holds as accepted stands exactly once in its receiver's postings, byte for byte as submitted; one
-/// held as rejected stands there not at all, then or after any longer run; a final fate never
-/// changes; and once the sender has handled its interchange's kept acknowledgment, no set of it is
-/// pending.
+/// holds as accepted or noted stands exactly once in its receiver's postings, byte for byte as
+/// submitted; one held as rejected stands there not at all, then or after any longer run; a final
+/// fate never changes; and once the sender has handled its interchange's kept acknowledgment, no set
+/// of it is pending.
 pub fn run_in_memory(
     network: &mut MemoryWorld,
     events: &[Event],

@@ -18,9 +18,9 @@ ghost use Rattle.x12_world.specs.World.{Event, World};
 ghost use Rattle.x12_world.specs.Run.{InEveryRun, InEveryWorld};
 
 /// After every list of submissions, deliveries, losses, repeats, retries and restarts, a
-/// transaction set that its sender holds as accepted stands exactly once in its receiver's
-/// postings, byte for byte as submitted; one held as rejected stands there not at all, then or
-/// after any longer list; a final fate never changes; and once the sender has handled its
+/// transaction set that its sender holds as accepted or noted stands exactly once in its
+/// receiver's postings, byte for byte as submitted; one held as rejected stands there not at all,
+/// then or after any longer list; a final fate never changes; and once the sender has handled its
 /// interchange's kept acknowledgment, no set of it is pending.
 pub fn headline()
     ensures headline { (p : Profile) → Laws p → InEveryRun p (Headline p) }
@@ -87,7 +87,7 @@ pub fn refusals()
 {}
 
 /// The laws can be met: some profile meets them, and runs of it end with a set held as accepted,
-/// and with one held as rejected, with one hub and with two.
+/// with one held as noted, and with one held as rejected, with one hub and with two.
 pub fn premise()
     ensures premise { PremiseIsMet }
 {}

@@ -23,10 +23,10 @@ impl<R: Records, H: HubRecords> World<R, H> {
     /// place from 0, with the events before it taken.
     ///
     /// Whatever was submitted, delivered, lost, repeated and restarted: a transaction set that its
-    /// sender holds as accepted stands exactly once in its receiver's postings, byte for byte as
-    /// submitted; one held as rejected stands there not at all, then or after any longer run; a final
-    /// fate never changes; and once the sender has handled its interchange's kept acknowledgment, no
-    /// set of it is pending.
+    /// sender holds as accepted or noted stands exactly once in its receiver's postings, byte for
+    /// byte as submitted; one held as rejected stands there not at all, then or after any longer run;
+    /// a final fate never changes; and once the sender has handled its interchange's kept
+    /// acknowledgment, no set of it is pending.
     pub fn run(&mut self, events: &[Event]) -> Result<Vec<Outcome>, (usize, Refused)>
         ensures never_won_back { NoneWonBack self.old.answers self.new.answers }
         ensures ran { AllAnswer self.new → IfOk result (λ os. RanAll self.old.world

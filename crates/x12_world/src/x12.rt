@@ -17,9 +17,9 @@ ghost use Rattle.x12_world.specs.Traffic.{TrafficFacts};
 use x12_profile::x12_meets_the_laws;
 
 /// After every list of submissions, deliveries, losses, repeats, retries and restarts, a
-/// transaction set that its sender holds as accepted stands exactly once in its receiver's
-/// postings, byte for byte as submitted; one held as rejected stands there not at all, then or
-/// after any longer list; a final fate never changes; and once the sender has handled its
+/// transaction set that its sender holds as accepted or noted stands exactly once in its
+/// receiver's postings, byte for byte as submitted; one held as rejected stands there not at all,
+/// then or after any longer list; a final fate never changes; and once the sender has handled its
 /// interchange's kept acknowledgment, no set of it is pending.
 pub fn headline()
     ensures headline { InEveryRun x12 (Headline x12) }

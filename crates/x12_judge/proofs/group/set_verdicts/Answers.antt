@@ -19,7 +19,7 @@ loop-set-preserved c =
     let number = bytes_of_set_no x.number in
     let received = map (set_view d) sets in
     let f : ℕ × TransactionSet → TransactionSetVerdict =
-    λ place. verdict_of_set d (list_any (λ i. bytes_eq i place.1.set) c.args.agreed.now) (take place.0 received) place.1 in
+    λ place. verdict_of_set d (list_any (λ i. bytes_eq i place.1.set) c.args.agreed.now) c.args.lenient (take place.0 received) place.1 in
     let so_far = c.loop-set.invariant in
     let earlier = λ (n : List ℕ). list_any (λ e. bytes_eq e.number n) (take i received) in
     let repeats : c.in_ok-repeated.repeated ≡ earlier number = elim (cases_Bool c.loop-set.numbers.differ) [
@@ -33,7 +33,7 @@ loop-set-preserved c =
     let kept = c.in_ok-repeated.ensures.differ in
     let same =
     c.in_ok-verdict.ensures (take i received) repeats
-    ∙ ap (λ b. verdict_of_set d b (take i received) (set_view d x)) c.is_one_of-is_agreed.ensures in
+    ∙ ap (λ b. verdict_of_set d b c.args.lenient (take i received) (set_view d x)) c.is_one_of-is_agreed.ensures in
     record {
       seen = λ may n.
           c.in_ok-repeated.ensures.seen (sym kept ∙ may) n

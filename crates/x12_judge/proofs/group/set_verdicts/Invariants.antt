@@ -10,7 +10,7 @@ abbrev pub invariant-loop-set : goal.invariant-loop-set
 invariant-loop-set l =
     let d = l.delims in
     let received = map (set_view d) l.sets in
-    let f : ℕ × TransactionSet → TransactionSetVerdict = λ place. verdict_of_set d (list_any (λ i. bytes_eq i place.1.set) l.agreed) (take place.0 received) place.1 in
+    let f : ℕ × TransactionSet → TransactionSetVerdict = λ place. verdict_of_set d (list_any (λ i. bytes_eq i place.1.set) l.agreed) l.lenient (take place.0 received) place.1 in
     record {
       seen : l.numbers.differ ≡ false → (n : List ℕ) → has_seen l.numbers n ≡ list_any (λ e. bytes_eq e.number n) (map (set_view d) (take l.set-index l.sets));
       differ : l.numbers.differ ≡ true → AllDiffer (map number_of_set l.sets);

@@ -6,6 +6,7 @@ use Rattle.x12_judge.specs.declared.element.Form.TheVariants.{Text}
 use Rattle.x12_judge.specs.declared.element.ElementRule.{ElementRule}
 use Rattle.x12_judge.specs.declared.verdict.SegmentCode.TheVariants.{ElementErrors}
 use Rattle.x12_judge.specs.Note.{kept_notes, opening}
+use Rattle.x12_judge.specs.Keeping.{keeping}
 use Rattle.x12_judge.specs.Segment.{identifier_of, note_of_element, element_notes}
 use Rattle.x12_judge.specs.Set.{segment, element}
 use Rattle.x12_judge.specs.Verdict.{note_view}
@@ -28,7 +29,7 @@ loop-rule-preserved c =
     let before = kept_notes c.loop-rule.notes in
     let left = filter_map f (drop (i + 1) rules) in
     let so_far =
-    sym (ap (λ ds. take 8 (before ++ to_come c.loop-rule.noted head (filter_map f ds)))
+    sym (ap (λ ds. keeping before (to_come c.loop-rule.noted head (filter_map f ds)))
     (next_left rules i d c.loop-rule-test.true))
     ∙ c.loop-rule.invariant.noted in
     record {
@@ -39,14 +40,14 @@ loop-rule-preserved c =
             let is = ap (option_map note_view) (sym w.in-Some.is) ∙ found in
             let more =
             w.in_ok-keep_element_note.ensures
-            ∙ ap (λ h. take 8 (before ++ (opening c.loop-rule.noted h ++ v ∷ []))) (w.note_on-head.ensures ∙ ap (λ n. segment (take 3 n) c.args.position ElementErrors) name_is) in
-            ap (λ n. take 8 (kept_notes n ++ to_come c.match-element_note.noted head left)) w.notes-is
-            ∙ ap (λ b. take 8 (kept_notes w.keep_element_note.new.notes ++ to_come b head left)) w.noted-is
+            ∙ ap (λ h. keeping before (opening c.loop-rule.noted h ++ v ∷ [])) (w.note_on-head.ensures ∙ ap (λ n. segment (take 3 n) c.args.position ElementErrors) name_is) in
+            ap (λ n. keeping (kept_notes n) (to_come c.match-element_note.noted head left)) w.notes-is
+            ∙ ap (λ b. keeping (kept_notes w.keep_element_note.new.notes) (to_come b head left)) w.noted-is
             ∙ note_found _ left v c.loop-rule.noted head before _ _ is more so_far
         | in_default w ↦
             let is = ap (option_map note_view) (sym w.in_default.is) ∙ found in
-            ap (λ n. take 8 (kept_notes n ++ to_come c.match-element_note.noted head left)) w.notes-is
-            ∙ ap (λ b. take 8 (before ++ to_come b head left)) w.noted-is
+            ap (λ n. keeping (kept_notes n) (to_come c.match-element_note.noted head left)) w.notes-is
+            ∙ ap (λ b. keeping before (to_come b head left)) w.noted-is
             ∙ none_found _ left c.loop-rule.noted head before _ is so_far
       ];
     }
@@ -61,4 +62,4 @@ returns c =
     let over = drop_all c.loop-rule.rule-index rules c.loop-rule-test.false in
     let few = length-map c.loop-rule.notes.kept.items note_view in
     all_found c.loop-rule.noted head kept _ (omega (arith, c.loop-rule.notes.few))
-    (sym (ap (λ ds. take 8 (kept ++ to_come c.loop-rule.noted head (filter_map f ds))) over) ∙ c.loop-rule.invariant.noted)
+    (sym (ap (λ ds. keeping kept (to_come c.loop-rule.noted head (filter_map f ds))) over) ∙ c.loop-rule.invariant.noted)

@@ -1,6 +1,7 @@
-use Rattle.std.proofs.Common.{◌≡◌, ◌++◌, take, drop}
+use Rattle.std.proofs.Common.{◌≡◌, take, drop}
 use Rattle.std.specs.List.{filter_map}
 use Rattle.x12_judge.specs.Note.{kept_notes, with_errors}
+use Rattle.x12_judge.specs.Keeping.{keeping}
 use Rattle.x12_judge.specs.Element.{rules_of_elements}
 use Rattle.x12_judge.specs.Segment.{identifier_of, note_of_element}
 use Rattle.x12_judge.specs.Set.{segment}
@@ -15,6 +16,6 @@ invariant-loop-rule l =
     record {
       same : l.elements.read ≡ l.read;
       noted :
-          take 8 (kept_notes l.notes ++ to_come l.noted head left)
-          ≡ take 8 (kept_notes l.fn.notes ++ with_errors head (filter_map (note_of_element l.read.delims l.read.bytes.now) rules_of_elements));
+          keeping (kept_notes l.notes) (to_come l.noted head left)
+          ≡ keeping (kept_notes l.fn.notes) (with_errors head (filter_map (note_of_element l.read.delims l.read.bytes.now) rules_of_elements));
     }

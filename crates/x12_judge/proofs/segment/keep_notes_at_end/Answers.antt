@@ -1,9 +1,11 @@
-use Rattle.std.proofs.Common.{◌++◌, ◌∷◌, [], ◌==◌, not, take, ap, ◌∙◌, codes}
+use Rattle.std.proofs.Common.{◌∷◌, [], ◌==◌, not, ap, ◌∙◌, codes}
 use Rattle.x12_envelopes.specs.Row.{held_of_rows}
 use Rattle.x12_judge.specs.declared.verdict.SegmentCode.TheVariants.{Missing}
 use Rattle.x12_judge.specs.Note.{kept_notes}
+use Rattle.x12_judge.specs.Keeping.{keeping}
 use Rattle.x12_judge.specs.Set.{segment}
-use Rattle.x12_judge.proofs.ListLemmas.{keeps_both, on_ok}
+use Rattle.x12_judge.proofs.KeptNoteLemmas.{keeps_more}
+use Rattle.x12_judge.proofs.ListLemmas.{on_ok}
 use Rattle.x12_judge.proofs.SegmentNoteLemmas.{two_rows}
 use Rattle.x12_judge.proofs.segment.keep_notes_at_end.Goals as goal
 
@@ -16,8 +18,8 @@ returns c =
     let beg = segment (codes "BEG") 2 Missing in
     let po1 = segment (codes "PO1") c.args.position Missing in
     on_ok c.keep_if-2.result
-    (λ e. keeps_both 8 old _ _ after (kept_notes c.keep_if-2.new.self)
-    (c.in_ok-keep_if.ensures ∙ ap (λ n. take 8 (old ++ held_of_rows ((beg_missing, n) ∷ []))) c.note_on.ensures)
-    (e ∙ ap (λ n. take 8 (after ++ held_of_rows ((po1_missing, n) ∷ []))) c.note_on-2.ensures)
-    ∙ ap (λ xs. take 8 (old ++ xs)) (two_rows (beg_missing, beg) (po1_missing, po1)))
+    (λ e. keeps_more old after (kept_notes c.keep_if-2.new.self) _ _
+    (c.in_ok-keep_if.ensures ∙ ap (λ n. keeping old (held_of_rows ((beg_missing, n) ∷ []))) c.note_on.ensures)
+    (e ∙ ap (λ n. keeping after (held_of_rows ((po1_missing, n) ∷ []))) c.note_on-2.ensures)
+    ∙ ap (keeping old) (two_rows (beg_missing, beg) (po1_missing, po1)))
     c.keep_if-2.ensures

@@ -1,9 +1,11 @@
-use Rattle.std.proofs.Common.{◌≡◌, ◌+◌, ◌++◌, ◌∷◌, ◌||◌, length, take, flat_map, bytes_eq, codes, ap, sym, ◌∙◌, arith}
+use Rattle.std.proofs.Common.{◌≡◌, ◌+◌, [], ◌∷◌, ◌||◌, length, flat_map, bytes_eq, codes, ap, sym, ◌∙◌, arith}
 use Rattle.x12_judge.specs.Body.{body_left}
 use Rattle.x12_judge.specs.Note.{kept_notes}
+use Rattle.x12_judge.specs.Keeping.{keeping}
 use Rattle.x12_judge.specs.Segment.{has_po1, identifier_of, notes_at, notes_from}
 use Rattle.x12_judge.specs.Set.{reported}
 use Rattle.x12_judge.proofs.SetNoteLemmas.{one_segment, one_test}
+use Rattle.x12_judge.proofs.KeptNoteLemmas.{nothing_noted}
 use Rattle.x12_judge.proofs.set.keep_body_notes.Goals.{then-has_po1, else-has_po1, then-has_po1-2, else-has_po1-2}
 use Rattle.x12_judge.proofs.set.keep_body_notes.Goals as goal
 
@@ -13,7 +15,7 @@ loop-bytes-init c =
     let kept = kept_notes c.args.notes.now in
     let left = c.of-body.ensures.left in
     record {
-      notes = ap (λ xs. take 8 (kept ++ flat_map reported (notes_from d 2 xs))) left;
+      notes = ap (λ xs. keeping kept (flat_map reported (notes_from d 2 xs))) left;
       position = omega (arith, ap length left);
       behind = omega arith;
       po1 = ap (has_po1 d) left;
@@ -50,10 +52,10 @@ loop-bytes-preserved c =
     ] in
     record {
       notes =
-          ap (λ ns. take 8 (more ++ flat_map reported ns))
+          ap (λ ns. keeping more (flat_map reported ns))
           (ap (λ n. notes_from d n rest) (omega arith) ∙ sym (passed.ensures.notes (position + 1) (omega (arith, so_far.behind))))
           ∙ one_segment kept _ _ (notes_at d position bytes) (notes_from d (position + 1) left) c.in_ok-is_ordinary.ensures.notes
-          (ap (λ xs. take 8 (kept ++ flat_map reported (notes_from d position xs))) (sym took) ∙ so_far.notes);
+          (ap (λ xs. keeping kept (flat_map reported (notes_from d position xs))) (sym took) ∙ so_far.notes);
       position = omega (arith, ap length took, passed.ensures.count, so_far.position);
       behind = omega (arith, so_far.behind);
       po1 =
@@ -62,3 +64,11 @@ loop-bytes-preserved c =
           ∙ one_test old _ here (has_po1 d left) _ now_has (ap (λ xs. old || has_po1 d xs) (sym took) ∙ so_far.po1));
       few = so_far.few;
     }
+
+pub returns-clause-notes : goal.returns-clause-notes
+returns-clause-notes c =
+    let d = c.args.delims.now in
+    let end : body_left d c.loop-bytes.body ≡ [] = c.in_default.ensures in
+    nothing_noted c.loop-bytes.notes.kept.items c.loop-bytes.notes.has_other (omega (arith, c.loop-bytes.notes.few))
+    ∙ ap (λ xs. keeping (kept_notes c.loop-bytes.notes) (flat_map reported (notes_from d c.loop-bytes.position xs))) (sym end)
+    ∙ c.loop-bytes.invariant.notes

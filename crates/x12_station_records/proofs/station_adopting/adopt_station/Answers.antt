@@ -5,6 +5,7 @@ use Rattle.sqlite.specs.State.{HasCleanDisk}
 use Rattle.x12_outbound.specs.Hubs.{hubs_of}
 use Rattle.x12_station.specs.Stored.{origin_of}
 use Rattle.x12_station_records.proofs.StationFoundLemmas.{valid_if_found}
+use Rattle.x12_station_records.proofs.StationOlder.{left_refused, refused_so}
 use Rattle.x12_station_records.proofs.station_adopting.adopt_station.Goals as goal
 
 pub returns-clause-valid : goal.returns-clause-valid
@@ -17,4 +18,11 @@ returns-clause-valid g c =
     valid_if_found (origin_of c.args.party.now (hubs_of c.args.hubs.now)) c.find_records.result old new c.find_records.ensures.finds outside settled law
 
 pub returns-clause-taken : goal.returns-clause-taken
-returns-clause-taken g c clean left = c.find_records.ensures.taken.taken clean left.ready left.holds
+returns-clause-taken g c clean =
+    left_refused (origin_of c.args.party.now (hubs_of c.args.hubs.now)) c.find_records.result (state g.S.Store c.args.conn.now) (state g.S.Store c.find_records.new.conn) c.find_records.ensures.taken c.find_records.ensures.older clean
+
+pub returns-clause-older : goal.returns-clause-older
+returns-clause-older g c clean left = refused_so c.find_records.result _ (c.find_records.ensures.older.older clean left.ready left.holds)
+
+pub returns-clause-only : goal.returns-clause-only
+returns-clause-only g c clean is = c.find_records.ensures.older.only clean is

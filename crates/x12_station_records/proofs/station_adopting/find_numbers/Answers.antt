@@ -2,10 +2,13 @@ use Rattle.std.proofs.Common.{subst}
 use Rattle.sqlite.specs.Held.{state}
 use Rattle.x12_tables.proofs.FindsLemmas.{finds_tested}
 use Rattle.x12_tables.proofs.TakesLemmas.{query_taken, takes_tested}
+use Rattle.sqlite_disk.specs.Disk.{MoreFaults}
 use Rattle.x12_tables.specs.Adopt.{ObeysSchema}
+use Rattle.x12_tables.specs.OneRow.{IsOfOlder}
 use Rattle.x12_tables.specs.declared.fault.TableFault.TheVariants.{Memory}
 use Rattle.x12_station_records.proofs.StationAdoptReads.{finds_numbers, numbers_reads}
 use Rattle.x12_station_records.proofs.StationNumberLemmas.{numbers_asks}
+use Rattle.x12_station_records.proofs.StationOlder.{older_asked, older_found, older_shown, told_old}
 use Rattle.x12_station_records.proofs.StationTaken.{numbers_taken}
 use Rattle.x12_station_records.specs.StationAdopt.{AreLastNumbers, FindsNumbers}
 use Rattle.x12_station_records.specs.StationSchema.{station_schema}
@@ -36,3 +39,18 @@ returns-clause-taken g c =
 pub returns-in_err-rows-clause-taken : goal.returns-in_err-rows-clause-taken
 returns-in_err-rows-clause-taken g c =
     query_taken HoldsStation station_schema _ _ _ _ _ numbers_reads (state g.S.Store c.args.conn.now) (state g.S.Store c.look.new.conn) c.in_err-rows.field-0.0 c.from_residual.result c.from_residual.ensures.1 (λ such. such.holds.has.schema) c.in_err-rows.ensures.fails
+
+pub returns-clause-older : goal.returns-clause-older
+returns-clause-older g c =
+    let old = state g.S.Store c.args.conn.now in
+    let new = state g.S.Store c.look.new.conn in
+    let rows = c.in_ok-rows.rows.items in
+    let ours = c.in_ok-rows.ensures.ours in
+    record {
+      only = λ clean is. older_found old new (ours.found clean).0.schema_is rows (c.in_ok-rows.ensures.shown clean) (subst (IsOfOlder 2) c.deref.ensures.value (c.numbers_in_rows.ensures.only is));
+      older = λ clean ready o. told_old c.numbers_in_rows.result (MoreFaults old.faults new.faults) (c.numbers_in_rows.ensures.older (subst (IsOfOlder 2) (sym c.deref.ensures.value) (older_shown old new o.schema rows (c.in_ok-rows.ensures.shown clean) o)));
+    }
+
+pub returns-in_err-rows-clause-older : goal.returns-in_err-rows-clause-older
+returns-in_err-rows-clause-older g c =
+    older_asked (state g.S.Store c.args.conn.now) (state g.S.Store c.look.new.conn) c.in_err-rows.field-0.0 c.from_residual.result c.from_residual.ensures.1 c.in_err-rows.ensures.known c.in_err-rows.ensures.fails

@@ -4,8 +4,9 @@ use Rattle.x12_outbound.specs.Hubs.{hubs_of}
 use Rattle.x12_tables.proofs.FindsLemmas.{finds_tested}
 use Rattle.x12_tables.proofs.TakesLemmas.{takes_failed, takes_never}
 use Rattle.x12_tables.specs.Fault.{fault_of_table}
-use Rattle.x12_tables.specs.declared.fault.TableFault.TheVariants.{Memory}
+use Rattle.x12_tables.specs.declared.fault.TableFault.TheVariants.{Memory, OldVersion}
 use Rattle.x12_station_records.proofs.StationFoundLemmas.{origin_found}
+use Rattle.x12_station_records.proofs.StationOlder.{older_failed, older_behind, never_old, passed_on}
 use Rattle.x12_station_records.specs.StationAdopt.{FindsNumbers, FindsOwn}
 use Rattle.x12_station_records.specs.StationNumbers.{KeptNumbers}
 use Rattle.x12_station_records.specs.StationTaken.{HoldsStation, HoldsStationOf}
@@ -39,3 +40,19 @@ returns-in_err-test_owner-clause-taken g c =
     (λ clean such.
     let said = origin_found old.now c.in_ok-numbers.numbers (c.in_ok-numbers.ensures.finds.found clean).0 in
     c.in_err-test_owner.ensures.other (sym (ap (λ (k : KeptNumbers). k.origin) said) ∙ such.1))
+
+pub returns-in_err-numbers-clause-older : goal.returns-in_err-numbers-clause-older
+returns-in_err-numbers-clause-older g c =
+    older_failed c.in_err-numbers.field-0.0 c.from_residual.result (state g.S.Store c.args.conn.now) (state g.S.Store c.find_numbers.new.conn) c.from_residual.ensures.1 c.in_err-numbers.ensures.older
+
+pub returns-in_err-test_owner-clause-older : goal.returns-in_err-test_owner-clause-older
+returns-in_err-test_owner-clause-older g c =
+    let new = state g.S.Store c.find_numbers.new.conn in
+    older_behind OldVersion Memory c.in_ok-numbers.numbers c.from_residual-in_err-test_owner.result (state g.S.Store c.args.conn.now) new new c.in_ok-numbers.ensures.older (λ clean. clean)
+    (passed_on c.in_err-test_owner.field-0.0 c.from_residual-in_err-test_owner.result c.from_residual-in_err-test_owner.ensures.1 c.in_err-test_owner.ensures.known)
+
+pub returns-clause-older : goal.returns-clause-older
+returns-clause-older g c =
+    let new = state g.S.Store c.find_numbers.new.conn in
+    let numbers = c.in_ok-numbers.numbers in
+    older_behind OldVersion Memory numbers (Ok numbers) (state g.S.Store c.args.conn.now) new new c.in_ok-numbers.ensures.older (λ clean. clean) (never_old numbers)

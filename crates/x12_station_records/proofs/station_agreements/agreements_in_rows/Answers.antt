@@ -17,7 +17,7 @@ returns-in_err-put_pair-clause-taken c =
     let rows = c.args.rows.now in
     let i = c.loop-row.row-index in
     rows_failed _ _ _ c.in_err-put_pair.field-0.0 _ c.from_residual-in_err-put_pair.result c.from_residual-in_err-put_pair.ensures.1 (λ f is memory. is ∙ memory) c.in_err-put_pair.ensures.taken
-    (λ h. (map pair_shown (take i rows), c.loop-row.invariant.0, one_more_kept rows i _ c.row-item.result c.in_ok-partner.partner c.in_ok-pair.pair c.loop-row-test.true (sym c.row-item.is) c.in_ok-partner.ensures.party c.in_ok-pair.ensures.functional c.in_ok-pair.ensures.set h.kept))
+    (λ h. (map pair_shown (take i rows), c.loop-row.invariant.0, one_more_kept rows i _ c.row-item.result c.in_ok-partner.partner c.in_ok-lenient.lenient c.in_ok-pair.pair c.loop-row-test.true (sym c.row-item.is) c.in_ok-partner.ensures.party c.in_ok-pair.ensures.functional c.in_ok-pair.ensures.set c.in_ok-lenient.ensures.is h.kept))
 
 pub returns-in_err-partner-clause-taken : goal.returns-in_err-partner-clause-taken
 returns-in_err-partner-clause-taken c =
@@ -28,6 +28,11 @@ pub returns-in_err-pair-clause-taken : goal.returns-in_err-pair-clause-taken
 returns-in_err-pair-clause-taken c =
     rows_failed _ _ _ c.in_err-pair.field-0.0 _ c.from_residual-in_err-pair.result c.from_residual-in_err-pair.ensures.1 (λ f is memory. is ∙ memory) c.in_err-pair.ensures.taken
     (λ h. holds_next HasPair c.args.rows.now c.loop-row.row-index _ c.row-item.result c.loop-row-test.true (sym c.row-item.is) (c.loop-row.invariant.2 h.pairs))
+
+pub returns-in_err-lenient-clause-taken : goal.returns-in_err-lenient-clause-taken
+returns-in_err-lenient-clause-taken c =
+    rows_failed _ _ _ c.in_err-lenient.field-0.0 _ c.from_residual-in_err-lenient.result c.from_residual-in_err-lenient.ensures.1 (λ f is memory. is ∙ memory) c.in_err-lenient.ensures.taken
+    (λ h. (holds_next HasPair c.args.rows.now c.loop-row.row-index _ c.row-item.result c.loop-row-test.true (sym c.row-item.is) (c.loop-row.invariant.2 h.pairs)).lenient)
 
 pub loop-row-preserved : goal.loop-row-preserved
 loop-row-preserved c = grind (arith, common_steps)

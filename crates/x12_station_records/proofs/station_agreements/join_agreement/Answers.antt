@@ -13,7 +13,7 @@ returns-clause-kept c =
     let new = c.push-2.new.self.items in
     let none = subst (λ xs. list_any (is_same_pair c.args.pair) xs ≡ false) c.deref.ensures.value (sym c.is_among.ensures ∙ c.if-is_among.false) in
     kept_joined (map agreement_view old) (map agreement_view new) (agreement_view c.args.last) c.args.pair c.requires none
-    (joined_view old new c.args.last (record c.args.last { pairs = c.push.new.self }) c.args.pair c.in_ok-push-2.ensures.items refl c.in_ok-push.ensures.items)
+    (joined_view old new c.args.last (record c.args.last { pairs = c.push.new.self }) c.args.pair c.in_ok-push-2.ensures.items refl refl c.in_ok-push.ensures.items)
 
 pub returns-then-is_among-clause-taken : goal.returns-then-is_among-clause-taken
 returns-then-is_among-clause-taken c kept =

@@ -13,11 +13,11 @@ returns-clause-kept c =
     let with = λ (a : TradingAgreement). is_same_party a.partner c.args.partner in
     let none = subst (λ xs. list_any with (map agreement_view xs) ≡ false) c.deref.ensures.value (sym c.has_agreement.ensures ∙ c.if-has_agreement.false) in
     let pairs = c.in_ok-push.ensures.items ∙ ap (λ xs. xs ++ c.args.pair ∷ []) c.new-pairs.ensures.items in
-    kept_started (map agreement_view old) (map agreement_view new) c.args.partner c.args.pair c.requires none
-    (started_view old new (record { partner = c.args.partner; pairs = c.push.new.self }) c.args.partner c.args.pair c.in_ok-push-2.ensures.items refl pairs)
+    kept_started (map agreement_view old) (map agreement_view new) c.args.partner c.args.lenient c.args.pair c.requires none
+    (started_view old new (record { partner = c.args.partner; lenient = c.args.lenient; pairs = c.push.new.self }) c.args.partner c.args.lenient c.args.pair c.in_ok-push-2.ensures.items refl refl pairs)
 
 pub returns-then-has_agreement-clause-taken : goal.returns-then-has_agreement-clause-taken
 returns-then-has_agreement-clause-taken c kept =
     let with = λ (a : TradingAgreement). is_same_party a.partner c.args.partner in
     let some = subst (λ xs. list_any with (map agreement_view xs) ≡ true) c.deref.ensures.value (sym c.has_agreement.ensures ∙ c.if-has_agreement.true) in
-    absurd (never_started c.args.partner c.args.pair (map agreement_view c.args.agreements.now.items) some kept)
+    absurd (never_started c.args.partner c.args.lenient c.args.pair (map agreement_view c.args.agreements.now.items) some kept)

@@ -1,0 +1,137 @@
+-- Tables of an older version are refused as such, and no others are.
+use Rattle.std.proofs.Common.{◌≡◌, ◌⊎◌, ◌∙◌, List, [], ◌∷◌, map, Ok, Err, Result, IsErr, IsErrAnd, IfErr, inl, inr, sym, ap, subst, refl, IsPermutation}
+use Rattle.std.proofs.lemmas.List.Sorted.{IsPermutation-sym}
+use Rattle.sqlite.specs.declared.types.Value.TheVariants.{Null}
+use Rattle.sqlite.specs.Order.{Row}
+use Rattle.sqlite.specs.Program.{overlay}
+use Rattle.sqlite.specs.State.{State, HasCleanDisk, Shown}
+use Rattle.sqlite.proofs.Callers.{one_permutation, reads_as}
+use Rattle.x12_envelopes.specs.declared.party.Party.{Party}
+use Rattle.x12_station.specs.Stored.{Origin}
+use Rattle.x12_tables.proofs.AllRows.{read_rows}
+use Rattle.x12_tables.proofs.TakesLemmas.{query_fails}
+use Rattle.x12_tables.specs.Adopt.{RefusesOlder, Takes}
+use Rattle.x12_tables.specs.Fault.{IsOldVersion, TellsFailure, fault_of_table, fault_of_rows}
+use Rattle.x12_tables.specs.OneRow.{IsOfOlder}
+use Rattle.x12_tables.specs.declared.fault.RecordsFault.{RecordsFault}
+use Rattle.x12_tables.specs.declared.fault.RecordsFault.TheVariants.{Memory, OldVersion, OtherParty}
+use Rattle.x12_tables.specs.declared.fault.TableFault.{TableFault}
+use Rattle.x12_tables.specs.declared.fault.TableFault.TheVariants as table
+use Rattle.x12_station_records.proofs.StationAdoptReads.{numbers_reads}
+use Rattle.x12_station_records.proofs.StationKeptRows.{show_numbers}
+use Rattle.x12_station_records.proofs.StationNumberLemmas.{numbers_shows, numbers_text, numbers_is, numbers_names, numbers_command}
+use Rattle.x12_station_records.specs.StationSchema.{station_schema}
+use Rattle.x12_station_records.specs.StationTaken.{HoldsOlder, HoldsStationOf, RefusesLeft}
+
+-- The row that the query shows is the one of the table.
+module _ (old new : State) (has : old.now.schema ≡ station_schema) (rows : List Row) (shown : Shown numbers_text [] old new rows) where
+  pub older_found : IsOfOlder 2 rows → HoldsOlder old.now
+  older_found are =
+      let got = reads_as numbers_text [] old new station_schema has numbers_command numbers_is.0 numbers_is.2 numbers_is.1 rows shown in
+      let all = read_rows 0 numbers_shows [] (overlay old.now.trees []) rows (got.answer Null) in
+      found all.0 all.1 (subst (IsOfOlder 2) all.2 are)
+    where
+      found : (rs : List Row) → IsPermutation (old.now.trees 0) rs → IsOfOlder 2 (map show_numbers rs) → HoldsOlder old.now
+      found [] moved are = absurd are
+      found (r ∷ []) moved are = record { schema = has; row = r; one = one_permutation r (old.now.trees 0) (IsPermutation-sym (old.now.trees 0) (r ∷ []) moved); version = are.0; version_is = are.1; older = (are.2, are.3) }
+      found (r ∷ s ∷ rs) moved are = absurd are
+
+  pub older_shown : HoldsOlder old.now → IsOfOlder 2 rows
+  older_shown o =
+      let got = reads_as numbers_text [] old new station_schema has numbers_command numbers_is.0 numbers_is.2 numbers_is.1 rows shown in
+      let all = read_rows 0 numbers_shows [] (overlay old.now.trees []) rows (got.answer Null) in
+      let one : all.0 ≡ o.row ∷ [] = one_permutation o.row all.0 (subst (λ tree. IsPermutation tree all.0) o.one all.1) in
+      let exact : rows ≡ show_numbers o.row ∷ [] = all.2 ∙ ap (map show_numbers) one in
+      subst (IsOfOlder 2) (sym exact) (o.version, o.version_is, o.older.0, o.older.1)
+
+pub told_old : {B : Type 0} (r : Result B TableFault) (more : Type 0) → IsErrAnd r IsOldVersion → IsErrAnd r (λ e. (e ≡ table.OldVersion) ⊎ (e ≡ table.Memory) ⊎ more)
+told_old (Ok x) more h = absurd h
+told_old (Err e) more h = elim h [ inl old ↦ inl old | inr memory ↦ inr (inl memory) ]
+
+same_fault : {B E : Type 0} (e f : E) → ◌≡◌ {A = Result B E} (Err e) (Err f) → e ≡ f
+same_fault e f same = cc
+
+-- the query failed
+pub older_asked : {A B : Type 0} (old new : State) (fault : TableFault) (r : Result B TableFault) → IsErrAnd r (λ f. f ≡ fault) → (◌≡◌ {A = Result A TableFault} (Err fault) (Err table.OldVersion) → ⊥)
+    → (HasCleanDisk new → old.now.schema ≡ station_schema → TellsFailure numbers_text old new fault) → RefusesOlder HoldsOlder table.OldVersion table.Memory r old new
+older_asked old new fault (Ok y) is known fails = absurd is
+older_asked old new fault (Err f) is known fails = record {
+  only = λ clean same. absurd (known (ap Err (sym is ∙ same_fault f table.OldVersion same)));
+  older = λ clean ready o. inr (elim (query_fails station_schema 0 numbers_shows [] numbers_names numbers_text numbers_reads old new fault o.schema ready (fails clean o.schema)) [ inl memory ↦ inl (is ∙ memory) | inr more ↦ inr more ]);
+}
+
+old_by : (e : TableFault) → fault_of_table e ≡ OldVersion → e ≡ table.OldVersion
+old_by table.NotOurs h = absurd cc
+old_by table.OldVersion h = refl
+old_by table.Store h = absurd cc
+old_by table.Memory h = absurd cc
+
+-- it fails, and so does what asks it
+pub older_failed : {A B : Type 0} (e : TableFault) (r : Result B RecordsFault) (a b : State) → IsErrAnd r (λ f. f ≡ fault_of_table e) → RefusesOlder {A = A} HoldsOlder table.OldVersion table.Memory (Err e) a b → RefusesOlder HoldsOlder OldVersion Memory r a b
+older_failed e (Ok y) a b is first = absurd is
+older_failed e (Err f) a b is first = record {
+  only = λ clean same. first.only clean (ap Err (old_by e (sym is ∙ same_fault f OldVersion same)));
+  older = λ clean ready o. elim (first.older clean ready o) [
+    | inl old ↦ inl (is ∙ ap fault_of_table old)
+    | inr (inl memory) ↦ inr (inl (is ∙ ap fault_of_table memory))
+    | inr (inr more) ↦ inr (inr more)
+  ];
+}
+
+-- what goes on behind it isn't of an older version
+pub older_behind : {A B E : Type 0} (o m : E) (x : A) (r : Result B RecordsFault) (a b c : State) → RefusesOlder HoldsOlder o m (Ok x) a b → (HasCleanDisk c → HasCleanDisk b) → (r ≡ Err OldVersion → ⊥) → RefusesOlder HoldsOlder OldVersion Memory r a c
+older_behind o m x r a b c first mid known = record {
+  only = λ clean is. absurd (known is);
+  older = λ clean ready h. absurd (first.older (mid clean) ready h);
+}
+
+pub never_old : {B : Type 0} (x : B) → ◌≡◌ {A = Result B RecordsFault} (Ok x) (Err OldVersion) → ⊥
+never_old x same = absurd cc
+
+-- a fault that is passed on
+pub passed_on : {A B : Type 0} (e : RecordsFault) (r : Result B RecordsFault) → IsErrAnd r (λ f. f ≡ e) → (◌≡◌ {A = Result A RecordsFault} (Err e) (Err OldVersion) → ⊥) → r ≡ Err OldVersion → ⊥
+passed_on e (Ok x) is known same = is
+passed_on e (Err f) is known same = known (ap Err (sym is ∙ same_fault f OldVersion same))
+
+-- a fault of other rows is none of the version, and names no party
+pub rows_not_old : {B : Type 0} (e : TableFault) (f : RecordsFault) → f ≡ fault_of_rows e → ◌≡◌ {A = Result B RecordsFault} (Err f) (Err OldVersion) → ⊥
+rows_not_old e f is same = by e (sym is ∙ same_fault f OldVersion same)
+  where
+    by : (e : TableFault) → fault_of_rows e ≡ OldVersion → ⊥
+    by table.NotOurs h = absurd cc
+    by table.OldVersion h = absurd cc
+    by table.Store h = absurd cc
+    by table.Memory h = absurd cc
+
+pub rows_name_none : {B : Type 0} (e : TableFault) (f : RecordsFault) (found wanted : Party) → f ≡ fault_of_rows e → ◌≡◌ {A = Result B RecordsFault} (Err f) (Err (OtherParty found wanted)) → ⊥
+rows_name_none e f found wanted is same = by e (sym is ∙ same_fault f (OtherParty found wanted) same)
+  where
+    by : (e : TableFault) → fault_of_rows e ≡ OtherParty found wanted → ⊥
+    by table.NotOurs h = absurd cc
+    by table.OldVersion h = absurd cc
+    by table.Store h = absurd cc
+    by table.Memory h = absurd cc
+
+-- what was left is taken, or refused for a cause
+pub left_refused : {B : Type 0} (o : Origin) (r : Result B RecordsFault) (old new : State) → Takes (HoldsStationOf o) Memory r old new → RefusesOlder HoldsOlder OldVersion Memory r old new → HasCleanDisk new → IfErr r (λ e. RefusesLeft o e old new)
+left_refused o (Ok x) old new takes refuses clean = tt
+left_refused o (Err e) old new takes refuses clean = record {
+  own = λ left. takes.taken clean left.ready left.holds;
+  older = λ left. refuses.older clean left.ready left.holds;
+}
+
+pub refused_so : {B E : Type 0} (r : Result B E) (P : E → Type 0) → IsErrAnd r P → IsErr r
+refused_so (Ok x) P h = absurd h
+refused_so (Err e) P h = refl
+
+-- the same fault, behind the same call
+pub older_on : {A B : Type 0} (e : RecordsFault) (r : Result B RecordsFault) (a b : State) → IsErrAnd r (λ f. f ≡ e) → RefusesOlder {A = A} HoldsOlder OldVersion Memory (Err e) a b → RefusesOlder HoldsOlder OldVersion Memory r a b
+older_on e (Ok y) a b is first = absurd is
+older_on e (Err f) a b is first = record {
+  only = λ clean same. first.only clean (ap Err (sym is ∙ same_fault f OldVersion same));
+  older = λ clean ready o. elim (first.older clean ready o) [
+    | inl old ↦ inl (is ∙ old)
+    | inr (inl memory) ↦ inr (inl (is ∙ memory))
+    | inr (inr more) ↦ inr (inr more)
+  ];
+}
