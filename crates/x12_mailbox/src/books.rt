@@ -1,8 +1,9 @@
 //! What the stations of folders submitted and posted.
 
-use crate::asked::Asked;
+use crate::connecting::whole_path;
 use crate::history::{Look, Submitted, look_at_all, sets_of, unanswered};
 use crate::opening::{OpensRecords, open_a_station};
+use crate::reconciling::ReconcileWords;
 use crate::stop::Stop;
 use crate::whose::{Whose, read_whose};
 use std::alloc::{AllocError, Global};
@@ -134,14 +135,6 @@ fn books_of<R: Records>(
     }
 }
 
-/// What the station of a folder submitted and posted.
-fn books_in<O: OpensRecords>(rt: &HostRuntime, opens: &O, dir: &str) -> Result<Books, Stop> {
-    let station = open_a_station(rt, opens, dir)?;
-    let me = station.party();
-    let mut records = station.close();
-    books_of(rt, dir, me, &mut records)
-}
-
 impl Books {
     /// How many postings have the key of a submitted set, and whether each has its bytes.
     pub(crate) fn compare(&self, sent: &Sent) -> (u64, bool) {
@@ -168,32 +161,63 @@ pub(crate) fn books_for<'a>(all: &'a [Books], party: &Party) -> Option<&'a Books
     all.iter().find(|books| books.me == *party)
 }
 
-/// Adds the books of a folder, if it is a station's: a hub has none.
+/// Whether a folder is among these.
+fn has_path(found: &[(String, &str)], path: &str) -> bool {
+    for (other, _) in found {
+        if other.as_str() == path {
+            return true;
+        }
+    }
+    false
+}
+
+/// The folders of stations among these, each once, by their paths from the root: a hub has no books.
+fn stations_of<'a>(rt: &HostRuntime, dirs: &[&'a str]) -> Result<Vec<(String, &'a str)>, Stop> {
+    let mut found: Vec<(String, &'a str)> = Vec::new(rt.alloc());
+    for dir in dirs {
+        if let Whose::Station(_, _, _) = read_whose(rt, dir)? {
+            let path = whole_path(rt, dir)?;
+            if !has_path(&found, path.as_str()) {
+                found.push((path, *dir))?;
+            }
+        }
+    }
+    Ok(found)
+}
+
+/// Opens the stations of folders from this one on, and then adds the books of each, the last one first.
+/// Each is held open until all are open: so all are read as they were at one moment.
 fn add_books<O: OpensRecords>(
     rt: &HostRuntime,
     opens: &O,
-    dir: &str,
+    dirs: &[(String, &str)],
     all: &mut Vec<Books>,
 ) -> Result<(), Stop> {
-    match read_whose(rt, dir)? {
-        Whose::Station(_, _, _) => Ok(all.push(books_in(rt, opens, dir)?)?),
-        Whose::Hub(_) => Ok(()),
-    }
+    let Some(((_, dir), rest)) = dirs.split_first() else {
+        return Ok(());
+    };
+    let station = open_a_station(rt, opens, dir)?;
+    let me = station.party();
+    let mut records = station.close();
+    add_books(rt, opens, rest, all)?;
+    Ok(all.push(books_of(rt, dir, me, &mut records)?)?)
 }
 
 /// The books of all folders, of which one has to be a station's.
 pub(crate) fn all_books<O: OpensRecords>(
     rt: &HostRuntime,
     opens: &O,
-    asked: &Asked<'_>,
+    words: &ReconcileWords<'_, '_>,
 ) -> Result<Vec<Books>, Stop> {
-    let mut all = Vec::new(rt.alloc());
-    add_books(rt, opens, asked.dir, &mut all)?;
-    for dir in asked.words {
-        add_books(rt, opens, dir, &mut all)?;
+    let alloc = rt.alloc();
+    let mut dirs = Vec::from_slice(alloc, &[words.dir])?;
+    dirs.extend_from_slice(words.more.unwrap_or(&[]))?;
+    let stations = stations_of(rt, &dirs)?;
+    if stations.is_empty() {
+        drop(open_a_station(rt, opens, words.dir)?.close());
     }
-    if all.is_empty() {
-        all.push(books_in(rt, opens, asked.dir)?)?;
-    }
+    let mut all = Vec::new(alloc);
+    add_books(rt, opens, &stations, &mut all)?;
+    all.reverse();
     Ok(all)
 }

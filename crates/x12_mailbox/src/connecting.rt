@@ -3,10 +3,10 @@
 //! A hub's mailbox is a folder as a party's is, with a file `hub` in it that says so. Where the other hub
 //! is on this machine, its `out` is a link to the `in` of the mailbox that this hub has there.
 
-use crate::asked::Asked;
-use crate::enrolling::{enrol_in, mailbox_of, node_in};
-use crate::folder::names_in;
-use crate::making::{link, make_below};
+use crate::enrolling::{EnrolWords, enrol_in, mailbox_of, node_in};
+use crate::linking::link;
+use crate::listing::names_in;
+use crate::making::make_below;
 use crate::opening::no_hub;
 use crate::say::{misuse, refusal, text_of, trouble};
 use crate::stop::Stop;
@@ -103,7 +103,7 @@ pub(crate) fn mailboxes_of(
 }
 
 /// The hub whose folder it is.
-fn hub_of(rt: &HostRuntime, dir: &str) -> Result<Party, Stop> {
+pub(crate) fn hub_of(rt: &HostRuntime, dir: &str) -> Result<Party, Stop> {
     match read_whose(rt, dir)? {
         Whose::Hub(hub) => Ok(hub),
         Whose::Station(me, _, _) => Err(no_hub(rt, dir, &me)),
@@ -111,8 +111,8 @@ fn hub_of(rt: &HostRuntime, dir: &str) -> Result<Party, Stop> {
 }
 
 /// The other hub that the command line names, by its folder or by its party.
-pub(crate) fn other_hub(rt: &HostRuntime, asked: &Asked<'_>) -> Result<Option<Party>, Stop> {
-    match (asked.at, asked.hub) {
+pub(crate) fn other_hub(rt: &HostRuntime, words: &EnrolWords<'_>) -> Result<Option<Party>, Stop> {
+    match (words.at, words.hub) {
         (None, None) => Ok(None),
         (Some(dir), None) => Ok(Some(hub_of(rt, dir)?)),
         (None, Some(hub)) => Ok(Some(wanted_party(rt, "--hub", hub)?)),
@@ -153,7 +153,7 @@ fn want_other(
 }
 
 /// The path of a folder that is there, from the root.
-fn whole_path(rt: &HostRuntime, path: &str) -> Result<String, Stop> {
+pub(crate) fn whole_path(rt: &HostRuntime, path: &str) -> Result<String, Stop> {
     match fs::canonicalize(rt, path) {
         Ok(whole) => Ok(text_of(rt.alloc(), whole.display())?),
         Err(error) => Err(refusal(rt, path, "it can't be looked at", &error)),
@@ -188,14 +188,15 @@ fn hub_folders(rt: &HostRuntime, at: Option<&str>, me: &Party, mailbox: &str) ->
 pub(crate) fn enrol_beyond<H: HubRecords>(
     rt: &HostRuntime,
     hub: &mut Hub<H>,
-    asked: &Asked<'_>,
+    words: &EnrolWords<'_>,
     other: Party,
     party: Party,
+    known: &[u16],
 ) -> Result<u8, Stop> {
     let me = hub.party();
-    want_other(rt, asked.dir, &me, &other, &party)?;
-    let mailbox = mailbox_of(rt, asked.dir, &other)?;
-    hub_folders(rt, asked.at, &me, mailbox.as_str())?;
+    want_other(rt, words.dir, &me, &other, &party)?;
+    let mailbox = mailbox_of(rt, words.dir, &other)?;
+    hub_folders(rt, words.at, &me, mailbox.as_str())?;
     mark_hub(rt, mailbox.as_str(), other)?;
-    enrol_in(rt, hub, asked.dir, mailbox.as_str(), party)
+    enrol_in(rt, hub, words.dir, mailbox.as_str(), party, known)
 }

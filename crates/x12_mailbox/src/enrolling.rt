@@ -5,19 +5,95 @@
 //! records. The number stays the party's for good, also where it is dismissed and comes again: what
 //! waits in a mailbox is never another's. A party at another hub has that hub's mailbox.
 
-use crate::asked::Asked;
 use crate::connecting::{enrol_beyond, other_hub};
-use crate::folder::{names_in, put};
+use crate::folder::put;
 use crate::making::make_below;
+use crate::numbers::{add_of_folders, known_numbers};
 use crate::opening::{OpensRecords, open_a_hub};
+use crate::options::{STATUSES, text};
 use crate::say::{misuse, refusal, say, text_of, trouble};
 use crate::stop::Stop;
 use crate::whose::marked_hub;
 use crate::words::{below, party_name, party_text, wanted_party};
+use clap::ArgMatches;
+use command_table::{Kind, Row, Word};
+use std::fs;
 use std::io::ErrorKind;
-use std::{fs, str};
 use x12_envelopes::Party;
 use x12_hub::{Hub, HubFault, HubRecords};
+use x12_spool::next_node;
+
+/// The words of the command.
+static WORDS: [Word; 5] = [
+    Word {
+        kind: Kind::One,
+        name: "dir",
+        value: "HUB",
+        help: "The folder of a hub",
+    },
+    Word {
+        kind: Kind::One,
+        name: "party",
+        value: "QQID",
+        help: "Who gets a mailbox, as ZZBETA",
+    },
+    Word {
+        kind: Kind::Value,
+        name: "at",
+        value: "HUBDIR",
+        help: "The folder of the hub that the party is at, if that is another one on this machine",
+    },
+    Word {
+        kind: Kind::Value,
+        name: "hub",
+        value: "QQID",
+        help: "The hub that the party is at, if that is one on another machine",
+    },
+    Word {
+        kind: Kind::Flag,
+        name: "dismiss",
+        value: "",
+        help: "It loses its mailbox; the folder stays",
+    },
+];
+
+/// The command's part of the command line.
+pub(crate) fn row() -> Row {
+    Row {
+        name: "enrol",
+        about: "Gives a party a mailbox at a hub.",
+        more: STATUSES,
+        words: &WORDS,
+    }
+}
+
+/// What the words say.
+#[derive(Clone, Copy)]
+pub(crate) struct EnrolWords<'a> {
+    /// The folder of the hub.
+    pub(crate) dir: &'a str,
+    /// Who gets a mailbox.
+    pub(crate) party: &'a str,
+    /// `--at`.
+    pub(crate) at: Option<&'a str>,
+    /// `--hub`.
+    pub(crate) hub: Option<&'a str>,
+    /// `--dismiss`.
+    pub(crate) dismiss: bool,
+}
+
+impl<'a> EnrolWords<'a> {
+    /// Reads the words.
+    pub(crate) fn of(found: &ArgMatches<'a>) -> EnrolWords<'a> {
+        EnrolWords {
+            dir: text(found, "dir"),
+            party: text(found, "party"),
+            at: found.get_str("at"),
+            hub: found.get_str("hub"),
+            dismiss: found.get_flag("dismiss"),
+        }
+    }
+}
 
 /// The file of a mailbox that says its number.
 const NODE: &str = "node";
@@ -38,25 +114,15 @@ pub(crate) fn node_in(rt: &HostRuntime, mailbox: &str) -> Result<Option<u16>, St
     }
 }
 
-/// The greatest number of a mailbox below a hub's folder.
-fn greatest_node(rt: &HostRuntime, dir: &str) -> Result<u16, Stop> {
-    let alloc = rt.alloc();
-    let mut greatest = 0_u16;
-    for name in &names_in(rt, dir)? {
-        if let Ok(name) = str::from_utf8(name) {
-            let node = node_in(rt, below(alloc, dir, name)?.as_str())?;
-            greatest = greatest.max(node.unwrap_or(0));
-        }
-    }
-    Ok(greatest)
-}
-
-/// The number of a party's mailbox: its own, or the next one, which is written down first.
-fn node_for(rt: &HostRuntime, dir: &str, mailbox: &str) -> Result<u16, Stop> {
+/// The number of a party's mailbox: its own, or one above all that were given, of which the records know
+/// these; it is written down before the records have it.
+fn node_for(rt: &HostRuntime, dir: &str, mailbox: &str, known: &[u16]) -> Result<u16, Stop> {
     if let Some(node) = node_in(rt, mailbox)? {
         return Ok(node);
     }
-    let Some(node) = greatest_node(rt, dir)?.checked_add(1) else {
+    let mut given = Vec::from_slice(rt.alloc(), known)?;
+    add_of_folders(rt, dir, &mut given)?;
+    let Some(node) = next_node(&given) else {
         return Err(trouble(rt, &[dir, " has no number left for a mailbox"]));
     };
     let text = format!(in rt.alloc(); "{node}\n")?;
@@ -85,9 +151,10 @@ pub(crate) fn enrol_in<H: HubRecords>(
     dir: &str,
     mailbox: &str,
     party: Party,
+    known: &[u16],
 ) -> Result<u8, Stop> {
     let alloc = rt.alloc();
-    let node = node_for(rt, dir, mailbox)?;
+    let node = node_for(rt, dir, mailbox, known)?;
     if let Err(fault) = hub.enrol(party, node) {
         return Err(hub_trouble(rt, dir, fault));
     }
@@ -112,6 +179,7 @@ fn enrol_at<H: HubRecords>(
     hub: &mut Hub<H>,
     dir: &str,
     party: Party,
+    known: &[u16],
 ) -> Result<u8, Stop> {
     let mailbox = mailbox_of(rt, dir, &party)?;
     let mailbox = mailbox.as_str();
@@ -119,7 +187,7 @@ fn enrol_at<H: HubRecords>(
         return Err(trouble(rt, &[mailbox, " is the mailbox of a hub, and of no party"]));
     }
     make_below(rt, mailbox, &["in", "out", "refused"])?;
-    enrol_in(rt, hub, dir, mailbox, party)
+    enrol_in(rt, hub, dir, mailbox, party, known)
 }
 
 /// Takes a party's mailbox from it.
@@ -144,35 +212,57 @@ fn dismiss_at<H: HubRecords>(
 fn enrol_or_dismiss<H: HubRecords>(
     rt: &HostRuntime,
     hub: &mut Hub<H>,
-    asked: &Asked<'_>,
+    words: &EnrolWords<'_>,
     party: Party,
     other: Option<Party>,
+    known: &[u16],
 ) -> Result<u8, Stop> {
-    if asked.dismiss {
-        return dismiss_at(rt, hub, asked.dir, party);
+    if words.dismiss {
+        return dismiss_at(rt, hub, words.dir, party);
     }
     if party == hub.party() {
-        return Err(trouble(rt, &[asked.dir, " is the hub of this party itself"]));
+        return Err(trouble(rt, &[words.dir, " is the hub of this party itself"]));
     }
     match other {
-        Some(other) => enrol_beyond(rt, hub, asked, other, party),
-        None => enrol_at(rt, hub, asked.dir, party),
+        Some(other) => enrol_beyond(rt, hub, words, other, party, known),
+        None => enrol_at(rt, hub, words.dir, party, known),
     }
+}
+
+/// Whether a party is to get a mailbox that has no number yet.
+fn is_new(
+    rt: &HostRuntime,
+    words: &EnrolWords<'_>,
+    party: &Party,
+    other: &Option<Party>,
+) -> Result<bool, Stop> {
+    let whose = match other {
+        Some(other) => other,
+        None => party,
+    };
+    let mailbox = mailbox_of(rt, words.dir, whose)?;
+    Ok(!words.dismiss && node_in(rt, mailbox.as_str())?.is_none())
 }
 
 /// Gives a party a mailbox, or takes it away.
 pub(crate) fn enrol<O: OpensRecords>(
     rt: &HostRuntime,
     opens: &O,
-    asked: &Asked<'_>,
+    words: &EnrolWords<'_>,
 ) -> Result<u8, Stop> {
-    let party = wanted_party(rt, "QQID", asked.party.unwrap_or(""))?;
-    let other = other_hub(rt, asked)?;
-    if asked.dismiss && other.is_some() {
+    let party = wanted_party(rt, "QQID", words.party)?;
+    let other = other_hub(rt, words)?;
+    if words.dismiss && other.is_some() {
         return Err(misuse(rt, &["--dismiss goes with neither --at nor --hub"]));
     }
-    let mut hub = open_a_hub(rt, opens, asked.dir)?;
-    let done = enrol_or_dismiss(rt, &mut hub, asked, party, other);
+    // what another program gives meanwhile stands in a folder, which is read while the hub is open
+    let known = if is_new(rt, words, &party, &other)? {
+        known_numbers(rt, opens, words.dir)?
+    } else {
+        Vec::new(rt.alloc())
+    };
+    let mut hub = open_a_hub(rt, opens, words.dir)?;
+    let done = enrol_or_dismiss(rt, &mut hub, words, party, other, &known);
     drop(hub.close());
     done
 }

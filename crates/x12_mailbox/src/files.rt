@@ -1,19 +1,18 @@
-//! The folders of a node on the disk: what came, what goes on, and what is set aside. Each thing that
-//! is done is a line. Of the folders nothing is claimed.
+//! The folders of a node on the disk: what came, what is being taken, what goes on, and what is set aside.
+//! Each thing that is done is a line. Of the folders nothing is claimed.
 
-use crate::folder::{names_in, put, remove, stands};
-use crate::naming::{Names, free_name, named, word_in};
+use crate::aside::{Kept, keep};
+use crate::folder::{make, put, remove, stands};
+use crate::listing::{names_in, silent};
+use crate::naming::{Names, is_unfinished, named, word_in};
 use crate::reason::reason_text;
 use crate::say::{say, tell};
-use crate::stop::Stop;
+use crate::taking::{Took, has_grown, take};
 use crate::words::{below, nine, party_text};
 use std::alloc::{AllocError, Global};
-use std::{fs, io, str};
+use std::{io, str};
 use x12_envelopes::read_header;
 use x12_spool::{Reason, Spool, SpoolFault, Waiting, Word};
-
-/// The most bytes of a file that is read.
-const MOST: u64 = 16_777_216;
 
 /// The folders of a node.
 #[derive(Drop)]
@@ -22,12 +21,18 @@ pub(crate) struct Files<'a> {
     pub(crate) rt: &'a HostRuntime,
     /// Where what comes lies.
     pub(crate) from: String,
+    /// Where what is being taken lies: nobody else writes there.
+    own: String,
     /// Where what goes on is put.
     pub(crate) to: String,
     /// Where what isn't taken is kept.
     pub(crate) aside: String,
     /// What the names of files that came may say.
     pub(crate) names: Names,
+    /// How many bytes were read last.
+    read: usize,
+    /// A file of this turn can't be moved or read: the turn isn't done.
+    pub(crate) is_troubled: bool,
 }
 
 /// The folders below a folder: `from` and `to` are the names of two.
@@ -42,9 +47,12 @@ pub(crate) fn files_in<'a>(
     Ok(Files {
         rt,
         from: below(alloc, dir, from)?,
+        own: below(alloc, below(alloc, dir, "taking")?.as_str(), from)?,
         to: below(alloc, dir, to)?,
         aside: below(alloc, dir, "refused")?,
         names,
+        read: 0,
+        is_troubled: false,
     })
 }
 
@@ -59,14 +67,6 @@ fn told(alloc: Global, bytes: &[u8]) -> Result<String, AllocError> {
     text.push_str(" to ")?;
     text.push_str(party_text(alloc, &header.receiver)?.as_str())?;
     Ok(text)
-}
-
-/// Why nothing was said, to a spool.
-pub(crate) fn silent(stop: Stop) -> SpoolFault {
-    match stop {
-        Stop::Memory => SpoolFault::Memory,
-        _ => SpoolFault::Files,
-    }
 }
 
 /// Prints a line about a file.
@@ -85,24 +85,26 @@ fn pass_over(rt: &HostRuntime, path: &str, why: &str) -> Result<Option<Vec<u8>>,
     }
 }
 
-/// Why a file isn't read, by what stands there; `None` where it is to be read.
-fn hindrance(rt: &HostRuntime, path: &str) -> io::Result<Option<&'static str>> {
-    let found = fs::metadata(rt, path)?;
-    if !found.is_file() {
-        return Ok(Some("it is no file"));
+/// Whether a name is among these.
+fn has_name(names: &[Vec<u8>], name: &[u8]) -> bool {
+    for other in names {
+        if other.as_slice() == name {
+            return true;
+        }
     }
-    if found.len() > MOST {
-        return Ok(Some("it has more than 16777216 bytes"));
-    }
-    Ok(None)
+    false
 }
 
-/// The bytes of a file, or why it isn't read.
-pub(crate) fn bytes_of(rt: &HostRuntime, path: &str) -> io::Result<Result<Vec<u8>, &'static str>> {
-    match hindrance(rt, path)? {
-        Some(why) => Ok(Err(why)),
-        None => Ok(Ok(fs::read(rt, path)?)),
+/// Adds the names of files that are there, but for those that are among the first ones.
+fn add_new(names: &mut Vec<Vec<u8>>, came: Vec<Vec<u8>>) -> Result<(), AllocError> {
+    let first = names.len();
+    for name in came {
+        let taken = names.get(..first).unwrap_or(&[]);
+        if !is_unfinished(&name) && !has_name(taken, &name) {
+            names.push(name)?;
+        }
     }
+    Ok(())
 }
 
 /// The name of the file of an item.
@@ -121,12 +123,36 @@ impl<'a> Files<'a> {
         )
     }
 
-    /// The path of a file that came.
-    fn came(&self, name: &[u8]) -> Result<String, SpoolFault> {
+    /// The path of a name in a folder.
+    fn path_in(&self, folder: &str, name: &[u8]) -> Result<String, SpoolFault> {
         match str::from_utf8(name) {
-            Ok(name) => Ok(below(self.rt.alloc(), self.from.as_str(), name)?),
+            Ok(name) => Ok(below(self.rt.alloc(), folder, name)?),
             Err(_) => Err(SpoolFault::Files),
         }
+    }
+
+    /// The files that a turn took that was stopped, and then those that came, but for the names of the
+    /// first: these have to be done with before.
+    fn found(&self) -> Result<Vec<Vec<u8>>, SpoolFault> {
+        let came = names_in(self.rt, self.from.as_str())?;
+        if !came.is_empty() {
+            make(self.rt, self.own.as_str())?;
+        }
+        let mut names = Vec::new(self.rt.alloc());
+        if stands(self.rt, self.own.as_str())? {
+            names = names_in(self.rt, self.own.as_str())?;
+        }
+        add_new(&mut names, came)?;
+        Ok(names)
+    }
+
+    /// Removes a file that was taken, unless somebody wrote on: then the next turn takes it again.
+    fn remove_taken(&self, name: &[u8]) -> Result<(), SpoolFault> {
+        let own = self.path_in(self.own.as_str(), name)?;
+        if has_grown(self.rt, own.as_str(), self.read) {
+            return Ok(());
+        }
+        remove(self.rt, own.as_str())
     }
 
     /// Puts bytes under a name where they go on, and says what they are.
@@ -139,24 +165,6 @@ impl<'a> Files<'a> {
             told(self.rt.alloc(), bytes)?.as_str(),
         )
     }
-
-    /// Keeps bytes and a sentence under a name.
-    fn keep(&self, name: &str, bytes: &[u8], why: &str) -> Result<(), SpoolFault> {
-        let alloc = self.rt.alloc();
-        let mut sentence = String::from_str(alloc, why)?;
-        sentence.push('\n')?;
-        let mut beside = String::from_str(alloc, name)?;
-        beside.push_str(".why")?;
-        put(self.rt, self.aside.as_str(), name, bytes)?;
-        put(
-            self.rt,
-            self.aside.as_str(),
-            beside.as_str(),
-            sentence.as_bytes(),
-        )?;
-        let path = below(alloc, self.aside.as_str(), name)?;
-        line(self.rt, path.as_str(), why)
-    }
 }
 
 impl<'a> Spool for Files<'a> {
@@ -165,8 +173,9 @@ impl<'a> Spool for Files<'a> {
     ghost done = { λ s. None };
 
     fn waiting(&mut self) -> Result<Vec<Waiting>, SpoolFault> {
+        self.is_troubled = false;
         let mut files = Vec::new(self.rt.alloc());
-        for name in names_in(self.rt, self.from.as_str())? {
+        for name in self.found()? {
             let word = word_in(&name, self.names);
             if files.push(Waiting { name, word }).is_err() {
                 return Err(SpoolFault::Memory);
@@ -176,20 +185,26 @@ impl<'a> Spool for Files<'a> {
     }
 
     fn read(&mut self, name: &[u8]) -> Result<Option<Vec<u8>>, SpoolFault> {
-        let path = self.came(name)?;
-        let path = path.as_str();
-        match bytes_of(self.rt, path) {
-            Ok(Ok(bytes)) => {
-                line(self.rt, path, told(self.rt.alloc(), &bytes)?.as_str())?;
+        let came = self.path_in(self.from.as_str(), name)?;
+        let own = self.path_in(self.own.as_str(), name)?;
+        match take(self.rt, came.as_str(), own.as_str()) {
+            Ok(Took::Read(bytes)) => {
+                self.read = bytes.len();
+                line(
+                    self.rt,
+                    came.as_str(),
+                    told(self.rt.alloc(), &bytes)?.as_str(),
+                )?;
                 Ok(Some(bytes))
             }
-            Ok(Err(why)) => pass_over(self.rt, path, why),
+            Ok(Took::Stays(why)) => pass_over(self.rt, came.as_str(), why),
             Err(error) if error.kind() == io::ErrorKind::OutOfMemory => Err(SpoolFault::Memory),
             // a hub takes an item's file back once it hears that the item was taken
             Err(error) if error.kind() == io::ErrorKind::NotFound => Ok(None),
             Err(error) => {
+                self.is_troubled = true;
                 let why = format!(in self.rt.alloc(); "{error}")?;
-                pass_over(self.rt, path, why.as_str())
+                pass_over(self.rt, came.as_str(), why.as_str())
             }
         }
     }
@@ -218,15 +233,27 @@ impl<'a> Spool for Files<'a> {
     }
 
     fn set_aside(&mut self, name: &[u8], bytes: &[u8], reason: Reason) -> Result<(), SpoolFault> {
+        let Ok(name) = str::from_utf8(name) else {
+            return Err(SpoolFault::Files);
+        };
         let why = reason_text(self.rt.alloc(), reason)?;
-        let name = free_name(self.rt, self.aside.as_str(), name, bytes)?;
-        self.keep(name.as_str(), bytes, why.as_str())
+        let mut sentence = String::from_str(self.rt.alloc(), why.as_str())?;
+        sentence.push('\n')?;
+        let kept = Kept {
+            name,
+            bytes,
+            why: sentence.as_str(),
+        };
+        let name = keep(self.rt, self.aside.as_str(), &kept)?;
+        let path = below(self.rt.alloc(), self.aside.as_str(), name.as_str())?;
+        line(self.rt, path.as_str(), why.as_str())
     }
 
     fn remove(&mut self, name: &[u8]) -> Result<(), SpoolFault> {
         if let Word::Taken(item) = word_in(name, self.names) {
             self.unput(item)?;
+            return remove(self.rt, self.path_in(self.from.as_str(), name)?.as_str());
         }
-        remove(self.rt, self.came(name)?.as_str())
+        self.remove_taken(name)
     }
 }

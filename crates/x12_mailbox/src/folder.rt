@@ -1,11 +1,25 @@
 //! A folder of the disk, which says on standard error what it refuses. Of it nothing is claimed.
+//!
+//! Whatever the umask is, what is made is its owner's alone: a folder has the rights 0700, and a file 0600.
+//! But in a folder that gives what is made in it to its group (`chmod g+s`), and that the group may read,
+//! a file has 0640.
 
 use crate::say::fault;
 use crate::words::below;
-use std::alloc::AllocError;
-use std::io::Write;
+use std::fs::{DirBuilder, Metadata, OpenOptions, Permissions};
+use std::io::{ErrorKind, Write};
+use std::os::unix::fs::{DirBuilderExt, MetadataExt, OpenOptionsExt, PermissionsExt};
 use std::{fs, io, str};
 use x12_spool::{Disk, SpoolFault, put_whole};
+
+/// The rights of a folder that is made.
+const FOLDER_RIGHTS: u32 = 0o700;
+
+/// The rights of a file that is made.
+const FILE_RIGHTS: u32 = 0o600;
+
+/// The rights of a folder whose group reads what is made in it.
+const SHARED: u32 = 0o2040;
 
 /// A folder, by its path.
 #[derive(Drop)]
@@ -26,9 +40,34 @@ impl<'a> Folder<'a> {
     }
 }
 
-/// Writes a file anew, and waits until its bytes are on the disk.
-fn write_synced(rt: &HostRuntime, path: &str, bytes: &[u8]) -> io::Result<()> {
-    let mut file = fs::create(rt, path)?;
+/// The rights of a file that is made in this folder.
+fn rights_in(folder: &Metadata) -> u32 {
+    if folder.mode() & SHARED == SHARED {
+        FILE_RIGHTS | 0o040
+    } else {
+        FILE_RIGHTS
+    }
+}
+
+/// A file that is new under its name: nothing is written through a link that stood there.
+fn new_file(rt: &HostRuntime, path: &str) -> io::Result<fs::File> {
+    match fs::remove_file(rt, path) {
+        Ok(()) => {}
+        Err(error) if error.kind() == ErrorKind::NotFound => {}
+        Err(error) => return Err(error),
+    }
+    let mut options = OpenOptions::new();
+    options.write(true);
+    options.create_new(true);
+    options.mode(FILE_RIGHTS);
+    options.open(rt, path)
+}
+
+/// Writes a file of a folder anew, and waits until its bytes are on the disk.
+fn write_synced(rt: &HostRuntime, folder: &str, path: &str, bytes: &[u8]) -> io::Result<()> {
+    let rights = rights_in(&fs::metadata(rt, folder)?);
+    let mut file = new_file(rt, path)?;
+    file.set_permissions(Permissions::from_mode(rights))?;
     file.write_all(bytes)?;
     file.sync_all()
 }
@@ -46,7 +85,7 @@ impl<'a> Disk for Folder<'a> {
 
     fn write(&mut self, name: &[u8], bytes: &[u8]) -> Result<(), SpoolFault> {
         let path = self.path_of(name)?;
-        match write_synced(self.rt, path.as_str(), bytes) {
+        match write_synced(self.rt, self.path, path.as_str(), bytes) {
             Ok(()) => Ok(()),
             Err(error) => Err(fault(self.rt, path.as_str(), "it can't be written", &error)),
         }
@@ -88,66 +127,68 @@ pub(crate) fn stands(rt: &HostRuntime, path: &str) -> Result<bool, SpoolFault> {
     }
 }
 
+/// Whether a folder stands at a path.
+fn is_folder(rt: &HostRuntime, path: &str) -> bool {
+    match fs::metadata(rt, path) {
+        Ok(found) => found.is_dir(),
+        Err(_) => false,
+    }
+}
+
+/// The folder in which something lies.
+fn parent_of(path: &str) -> &str {
+    match path.strip_suffix('/').unwrap_or(path).rsplit_once('/') {
+        Some((parent, _)) => if parent.is_empty() { "/" } else { parent },
+        None => ".",
+    }
+}
+
+/// Makes a folder in one that is there, and waits until its name is on the disk; unless it is there.
+fn make_one(rt: &HostRuntime, path: &str) -> io::Result<()> {
+    if is_folder(rt, path) {
+        return Ok(());
+    }
+    let mut builder = DirBuilder::new();
+    builder.mode(FOLDER_RIGHTS);
+    builder.create(rt, path)?;
+    fs::set_permissions(rt, path, Permissions::from_mode(FOLDER_RIGHTS))?;
+    sync_folder(rt, parent_of(path))
+}
+
+/// Makes a folder, and those above it.
+fn make_all(rt: &HostRuntime, path: &str) -> io::Result<()> {
+    for end in 1..path.len() {
+        if let Some((above, rest)) = path.split_at_checked(end) {
+            if rest.starts_with('/') {
+                make_one(rt, above)?;
+            }
+        }
+    }
+    make_one(rt, path)
+}
+
 /// Makes a folder, unless it is there.
 pub(crate) fn make(rt: &HostRuntime, path: &str) -> Result<(), SpoolFault> {
-    match fs::create_dir_all(rt, path) {
+    match make_all(rt, path) {
         Ok(()) => Ok(()),
         Err(error) => Err(fault(rt, path, "the folder can't be made", &error)),
     }
 }
 
-/// A name without a dot in front of it.
-fn is_whole(name: &str) -> bool {
-    !name.starts_with('.')
-}
-
-/// The names in a folder that have no dot in front, or those that have one.
-fn names_read(rt: &HostRuntime, path: &str, whole: bool) -> io::Result<Vec<Vec<u8>>> {
-    let alloc = rt.alloc();
-    let mut names = Vec::new(alloc);
-    for entry in fs::read_dir(rt, path)? {
-        let entry = entry?;
-        let name = entry.file_name();
-        if is_whole(name) == whole {
-            names.push(Vec::from_slice(alloc, name.as_bytes())?)?;
-        }
+/// Gives a file that something else made the rights of one that is made here, if it is there.
+pub(crate) fn keep_private(rt: &HostRuntime, path: &str) -> Result<(), SpoolFault> {
+    match fs::set_permissions(rt, path, Permissions::from_mode(FILE_RIGHTS)) {
+        Ok(()) => Ok(()),
+        Err(error) if error.kind() == ErrorKind::NotFound => Ok(()),
+        Err(error) => Err(fault(rt, path, "its rights can't be set", &error)),
     }
-    Ok(names)
-}
-
-/// These names, in the order of their bytes.
-fn names(rt: &HostRuntime, path: &str, whole: bool) -> Result<Vec<Vec<u8>>, SpoolFault> {
-    match names_read(rt, path, whole) {
-        Ok(mut names) => {
-            if let Err(AllocError) = names.sort() {
-                return Err(SpoolFault::Memory);
-            }
-            Ok(names)
-        }
-        Err(error) => Err(fault(rt, path, "the folder can't be listed", &error)),
-    }
-}
-
-/// The names in a folder, but for those with a dot in front, in the order of their bytes.
-pub(crate) fn names_in(rt: &HostRuntime, path: &str) -> Result<Vec<Vec<u8>>, SpoolFault> {
-    names(rt, path, true)
-}
-
-/// Removes each file of a folder that has a dot in front of its name.
-pub(crate) fn drop_drafts(rt: &HostRuntime, path: &str) -> Result<(), SpoolFault> {
-    for name in &names(rt, path, false)? {
-        if let Ok(name) = str::from_utf8(name) {
-            remove(rt, below(rt.alloc(), path, name)?.as_str())?;
-        }
-    }
-    Ok(())
 }
 
 /// Removes a file, if it is there.
 pub(crate) fn remove(rt: &HostRuntime, path: &str) -> Result<(), SpoolFault> {
     match fs::remove_file(rt, path) {
         Ok(()) => Ok(()),
-        Err(error) if error.kind() == io::ErrorKind::NotFound => Ok(()),
+        Err(error) if error.kind() == ErrorKind::NotFound => Ok(()),
         Err(error) => Err(fault(rt, path, "it can't be removed", &error)),
     }
 }

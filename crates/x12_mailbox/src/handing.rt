@@ -1,38 +1,29 @@
 //! `posted`: a file for each set that a station accepted, handed over once. Whoever takes such a file
 //! away never sees it again, whatever is killed and whatever comes again.
 //!
-//! A set is drafted under its name with a dot in front; then the file `handed` says, in one rename, that
-//! it is handed over; then it gets its name. So where a run was killed, the next one knows by `handed`
-//! which drafts get their names, and which are dropped.
+//! A set is drafted under its name with a dot in front, and the folder is synced; then the file `handed`
+//! says, in one rename, that it is handed over; then it gets its name. So where a run was killed, the next
+//! one knows by `handed` which drafts get their names, and which are dropped. Where `handed` is missing,
+//! nobody knows what was handed over: whoever runs the station has to say.
 
 use crate::agreeing::station_trouble;
-use crate::files::silent;
-use crate::folder::{Folder, drop_drafts, make, put, stands};
+use crate::folder::{Folder, make, stands};
+use crate::listing::{drop_drafts, silent};
+use crate::marks::{Mark, found_mark, give_mark, write_mark};
 use crate::posted::name_of;
-use crate::say::{refusal, say, trouble};
+use crate::say::say;
 use crate::stop::Stop;
 use crate::turns::is_done;
 use crate::words::{below, party_text, shown};
 use std::alloc::{AllocError, Global};
-use std::fs;
 use x12_inbound::Posting;
 use x12_spool::{Disk, HandOver, SpoolFault, hand_over};
 use x12_station::{Records, Station};
-
-/// The file that says how many sets were handed over.
-const HANDED: &str = "handed";
 
 /// The most sets that are handed over at once, and of their bytes.
 const MOST: usize = 100;
 
 const MOST_BYTES: usize = 1_048_576;
-
-/// How many sets were handed over, and how many before the last of them were.
-#[derive(Clone, Copy)]
-struct Mark {
-    before: u64,
-    handed: u64,
-}
 
 /// Where a station's accepted sets are handed over.
 #[derive(Drop)]
@@ -49,49 +40,21 @@ pub(crate) struct Posted<'a> {
     is_clean: bool,
 }
 
-/// The numbers of a mark, as `12 15`.
-fn numbers_in(text: &str) -> Option<Mark> {
-    let (before, handed) = text.trim_ascii_end().split_once(' ')?;
-    let before = before.parse().ok()?;
-    let handed = handed.parse().ok()?;
-    Some(Mark { before, handed })
-}
-
-/// The mark in a station's folder; nothing is handed over where there is none.
-fn mark_in(rt: &HostRuntime, dir: &str) -> Result<Mark, Stop> {
-    let path = below(rt.alloc(), dir, HANDED)?;
-    let path = path.as_str();
-    if !stands(rt, path)? {
-        let (before, handed) = (0, 0);
-        return Ok(Mark { before, handed });
-    }
-    match fs::read_to_string(rt, path) {
-        Ok(text) => match numbers_in(text.as_str()) {
-            Some(mark) => Ok(mark),
-            None => Err(trouble(
-                rt,
-                &[path, ": it doesn't say how many sets were handed over"],
-            )),
-        },
-        Err(error) => Err(refusal(rt, path, "it can't be read", &error)),
-    }
-}
-
 /// A name with a dot in front.
 fn dotted(alloc: Global, name: &str) -> Result<String, AllocError> {
     format!(in alloc; ".{name}")
 }
 
 impl<'a> Posted<'a> {
-    /// The folder `posted` of a station's folder, made where it isn't there, and what was handed over.
-    fn of(rt: &'a HostRuntime, dir: &'a str) -> Result<Posted<'a>, Stop> {
+    /// The folder `posted` of a station's folder, made where it isn't there.
+    fn of(rt: &'a HostRuntime, dir: &'a str, mark: Mark) -> Result<Posted<'a>, Stop> {
         let folder = below(rt.alloc(), dir, "posted")?;
         make(rt, folder.as_str())?;
         Ok(Posted {
             rt,
             dir,
             folder,
-            mark: mark_in(rt, dir)?,
+            mark,
             is_clean: false,
         })
     }
@@ -185,11 +148,15 @@ impl<'a> HandOver for Posted<'a> {
         Disk::write(&mut self.disk(), draft.as_bytes(), &posting.bytes)
     }
 
+    fn sync(&mut self) -> Result<(), SpoolFault> {
+        Disk::sync(&mut self.disk())
+    }
+
     fn mark(&mut self, handed: u64) -> Result<(), SpoolFault> {
         let before = self.mark.handed;
-        let text = format!(in self.rt.alloc(); "{before} {handed}\n")?;
-        put(self.rt, self.dir, HANDED, text.as_bytes())?;
-        self.mark = Mark { before, handed };
+        let mark = Mark { before, handed };
+        write_mark(self.rt, self.dir, &mark)?;
+        self.mark = mark;
         Ok(())
     }
 
@@ -235,35 +202,19 @@ fn left_over<R: Records>(
     postings_behind(posted, station, before, most)
 }
 
-/// The mark, as it is found; records that have fewer sets than were handed over are an older copy.
-fn found_mark<R: Records>(posted: &Posted<'_>, station: &mut Station<R>) -> Result<Mark, Stop> {
-    let (rt, dir) = (posted.rt, posted.dir);
-    let mark = mark_in(rt, dir)?;
-    if mark.handed == 0 {
-        return Ok(mark);
-    }
-    match station.posting(mark.handed) {
-        Ok(Some(_)) => Ok(mark),
-        Ok(None) => Err(trouble(
-            rt,
-            &[
-                below(rt.alloc(), dir, HANDED)?.as_str(),
-                ": more sets were handed over than the records have, which are an older copy",
-            ],
-        )),
-        Err(fault) => Err(station_trouble(rt, dir, fault)),
-    }
-}
-
-/// Where a station's accepted sets are handed over. Records that are an older copy are refused.
+/// Where a station's accepted sets are handed over, of which the command line may say how many were.
+/// Records that are an older copy are refused.
 pub(crate) fn posted_over<'a, R: Records>(
     rt: &'a HostRuntime,
     dir: &'a str,
     station: &mut Station<R>,
+    handed: Option<&str>,
 ) -> Result<Posted<'a>, Stop> {
-    let mut posted = Posted::of(rt, dir)?;
-    posted.mark = found_mark(&posted, station)?;
-    Ok(posted)
+    if let Some(word) = handed {
+        give_mark(rt, dir, station, word)?;
+    }
+    let mark = found_mark(rt, dir, station)?;
+    Posted::of(rt, dir, mark)
 }
 
 /// Hands over what was posted since; whether all was done: a folder may refuse.
@@ -273,7 +224,7 @@ pub(crate) fn hand_over_all<R: Records>(
 ) -> Result<bool, Stop> {
     for _ in 0..u64::MAX {
         if !posted.is_clean {
-            posted.mark = found_mark(posted, station)?;
+            posted.mark = found_mark(posted.rt, posted.dir, station)?;
         }
         let handed = posted.mark.handed;
         let new = postings_behind(posted, station, handed, MOST)?;

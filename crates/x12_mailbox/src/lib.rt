@@ -1,9 +1,10 @@
 //! Folders that are mailboxes: what each command of the program `van` does to the folder of a station or
-//! a hub. A command is a file, and what it is asked for is an [`Asked`].
+//! a hub. A command is a file: its row of the command line, what
+//! its words say, and its run.
 #![tactic(auto)]
 
 mod agreeing;
-mod asked;
+mod aside;
 mod books;
 mod clock;
 mod command;
@@ -12,13 +13,19 @@ mod differing;
 mod enrolling;
 mod files;
 mod folder;
+mod form;
 mod handing;
 mod history;
 mod hub_log;
+mod linking;
+mod listing;
 mod logging;
 mod making;
+mod marks;
 mod naming;
+mod numbers;
 mod opening;
+mod options;
 mod posted;
 mod reason;
 mod reconciling;
@@ -29,13 +36,13 @@ mod station_turns;
 mod status;
 mod stop;
 mod submitting;
+mod taking;
 mod turns;
 mod verifying;
 mod whose;
 mod words;
 
-pub use asked::{Asked, Form};
-pub use command::run_command;
+pub use command::{COMMANDS, Command};
 pub use opening::OpensRecords;
 pub use say::misuse;
 pub use stop::{Stop, status_of};

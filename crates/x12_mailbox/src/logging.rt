@@ -1,17 +1,98 @@
 //! `van log`: what a station's records tell, in the order in which it was submitted and came.
 
-use crate::asked::Asked;
+use crate::form::Form;
 use crate::history::{find_entry, loaded, unanswered};
 use crate::hub_log::log_hub;
 use crate::opening::{Opened, OpensRecords, open};
+use crate::options::{CSV, DIR, JSON, form_of, text};
 use crate::search::{Search, Told, search_of};
 use crate::stop::Stop;
 use crate::words::shown;
+use clap::ArgMatches;
+use command_table::{Kind, Row, Word};
 use std::alloc::{AllocError, Global};
 use x12_envelopes::{Header, read_header};
 use x12_inbound::{Filed, Posting};
 use x12_outbound::{Entry, Fate};
 use x12_station::{Item, Loaded, Records};
+
+const MORE: &str = "\
+Exit status:
+  0  done
+  1  nothing was found, or something failed
+  2  the command line is wrong";
+
+/// The words of the command.
+static WORDS: [Word; 7] = [
+    DIR,
+    Word {
+        kind: Kind::Value,
+        name: "partner",
+        value: "QQID",
+        help: "Only what went to this party or came from it",
+    },
+    Word {
+        kind: Kind::Value,
+        name: "number",
+        value: "N",
+        help: "Only interchanges of this number",
+    },
+    Word {
+        kind: Kind::Value,
+        name: "text",
+        value: "TEXT",
+        help: "Only interchanges in which this stands",
+    },
+    Word {
+        kind: Kind::Flag,
+        name: "bytes",
+        value: "",
+        help: "Writes the interchanges as they are, and no lines",
+    },
+    JSON,
+    CSV,
+];
+
+/// The command's part of the command line.
+pub(crate) fn row() -> Row {
+    Row {
+        name: "log",
+        about: "Tells what a station submitted, took and posted, or what went through a hub.",
+        more: MORE,
+        words: &WORDS,
+    }
+}
+
+/// What the words say.
+#[derive(Clone, Copy)]
+pub(crate) struct LogWords<'a> {
+    /// The folder.
+    pub(crate) dir: &'a str,
+    /// `--partner`.
+    pub(crate) partner: Option<&'a str>,
+    /// `--number`.
+    pub(crate) number: Option<&'a str>,
+    /// `--text`.
+    pub(crate) text: Option<&'a str>,
+    /// `--bytes`.
+    pub(crate) bytes: bool,
+    /// `--json`, `--csv`.
+    pub(crate) form: Form,
+}
+
+impl<'a> LogWords<'a> {
+    /// Reads the words.
+    pub(crate) fn of(found: &ArgMatches<'a>) -> LogWords<'a> {
+        LogWords {
+            dir: text(found, "dir"),
+            partner: found.get_str("partner"),
+            number: found.get_str("number"),
+            text: found.get_str("text"),
+            bytes: found.get_flag("bytes"),
+            form: form_of(found),
+        }
+    }
+}
 
 /// What was replied to an arrival.
 fn answer_text(alloc: Global, filed: &Filed) -> Result<String, AllocError> {
@@ -41,8 +122,9 @@ fn count(entry: &Entry, fate: Fate) -> usize {
 fn fates_text(alloc: Global, entry: &Entry) -> Result<String, AllocError> {
     let pending = count(entry, Fate::Pending);
     let accepted = count(entry, Fate::Accepted);
+    let noted = count(entry, Fate::Noted);
     let rejected = count(entry, Fate::Rejected);
-    format!(in alloc; "{pending} pending, {accepted} accepted, {rejected} rejected")
+    format!(in alloc; "{pending} pending, {accepted} accepted, {noted} noted, {rejected} rejected")
 }
 
 /// What is told of a submission.
@@ -235,10 +317,10 @@ fn log_station<R: Records>(search: &mut Search<'_>, records: &mut R) -> Result<u
 pub(crate) fn log<O: OpensRecords>(
     rt: &HostRuntime,
     opens: &O,
-    asked: &Asked<'_>,
+    words: &LogWords<'_>,
 ) -> Result<u8, Stop> {
-    let mut search = search_of(rt, asked)?;
-    match open(rt, opens, asked.dir)? {
+    let mut search = search_of(rt, words)?;
+    match open(rt, opens, words.dir)? {
         Opened::Station(station) => log_station(&mut search, &mut station.close()),
         Opened::Hub(hub) => log_hub(&mut search, &mut hub.close()),
     }

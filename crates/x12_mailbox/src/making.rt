@@ -1,17 +1,104 @@
 //! `van init`: a folder that says whose it is.
 
-use crate::asked::Asked;
-use crate::folder::make;
+use crate::folder::{keep_private, make};
+use crate::linking::{link_folders, want_hub};
 use crate::opening::{OpensRecords, hub_in, records_below, station_in, unopened};
-use crate::say::{misuse, refusal, say, text_of, trouble};
+use crate::options::{STATUSES, text};
+use crate::say::{joined, misuse, say, trouble};
 use crate::stop::Stop;
 use crate::whose::{Whose, is_mailbox, read_whose, write_whose};
-use crate::words::{below, party_name, party_text, wanted_party};
+use crate::words::{below, party_text, wanted_party};
+use clap::ArgMatches;
+use command_table::{Kind, Row, Word};
 use std::alloc::{AllocError, Global};
-use std::fs;
-use std::io::ErrorKind;
-use std::os::unix::fs::symlink;
 use x12_envelopes::Party;
+
+/// The words of the command.
+static WORDS: [Word; 6] = [
+    Word {
+        kind: Kind::One,
+        name: "dir",
+        value: "DIR",
+        help: "The folder to make",
+    },
+    Word {
+        kind: Kind::Value,
+        name: "me",
+        value: "QQID",
+        help: "Whose folder it is: the qualifier, then the identifier, as ZZALPHA",
+    },
+    Word {
+        kind: Kind::Value,
+        name: "hub",
+        value: "QQID",
+        help: "The station's hub, as ZZHUB",
+    },
+    Word {
+        kind: Kind::Value,
+        name: "other-hub",
+        value: "QQID",
+        help: "The hub that this one is connected to, if it is: its refusals are believed, too",
+    },
+    Word {
+        kind: Kind::Value,
+        name: "at",
+        value: "HUBDIR",
+        help: "The hub's folder, if it is on this machine: in and out are linked to the mailbox there",
+    },
+    Word {
+        kind: Kind::Flag,
+        name: "is-hub",
+        value: "",
+        help: "It is the folder of a hub",
+    },
+];
+
+/// The command's part of the command line.
+pub(crate) fn row() -> Row {
+    Row {
+        name: "init",
+        about: "Makes the folder of a station or of a hub.",
+        more: STATUSES,
+        words: &WORDS,
+    }
+}
+
+/// What the words say.
+#[derive(Clone, Copy)]
+pub(crate) struct InitWords<'a> {
+    /// The folder to make.
+    dir: &'a str,
+    /// `--me`.
+    me: Option<&'a str>,
+    /// `--hub`.
+    hub: Option<&'a str>,
+    /// `--other-hub`.
+    other_hub: Option<&'a str>,
+    /// `--at`.
+    at: Option<&'a str>,
+    /// `--is-hub`.
+    is_hub: bool,
+}
+
+impl<'a> InitWords<'a> {
+    /// Reads the words.
+    pub(crate) fn of(found: &ArgMatches<'a>) -> InitWords<'a> {
+        InitWords {
+            dir: text(found, "dir"),
+            me: found.get_str("me"),
+            hub: found.get_str("hub"),
+            other_hub: found.get_str("other-hub"),
+            at: found.get_str("at"),
+            is_hub: found.get_flag("is-hub"),
+        }
+    }
+}
+
+/// Lets nobody else read the records at a path.
+fn keep_records(rt: &HostRuntime, path: &str) -> Result<(), Stop> {
+    keep_private(rt, path)?;
+    Ok(keep_private(rt, joined(rt.alloc(), &[path, "-wal"])?.as_str())?)
+}
 
 /// Makes a station's records, or finds those that an earlier try made.
 fn station_records<O: OpensRecords>(
@@ -28,7 +115,7 @@ fn station_records<O: OpensRecords>(
         Ok(false) => drop(station_in(rt, opens, dir, me, hub, other)?.close()),
         Err(fault) => return Err(unopened(rt, opens, path.as_str(), fault)),
     }
-    Ok(())
+    keep_records(rt, path.as_str())
 }
 
 /// Makes a hub's records, or finds those that an earlier try made.
@@ -44,7 +131,7 @@ fn hub_records<O: OpensRecords>(
         Ok(false) => drop(hub_in(rt, opens, dir, me)?.close()),
         Err(fault) => return Err(unopened(rt, opens, path.as_str(), fault)),
     }
-    Ok(())
+    keep_records(rt, path.as_str())
 }
 
 /// Says that a folder has records already.
@@ -63,62 +150,6 @@ fn is_made(rt: &HostRuntime, dir: &str) -> Stop {
     }
 }
 
-/// Makes a link that isn't there.
-fn new_link(rt: &HostRuntime, to: &str, at: &str) -> Result<(), Stop> {
-    match symlink(rt, to, at) {
-        Ok(()) => Ok(()),
-        Err(error) => Err(refusal(rt, at, "the link can't be made", &error)),
-    }
-}
-
-/// Links a folder to one of another node's, unless that is done.
-pub(crate) fn link(rt: &HostRuntime, to: &str, at: &str) -> Result<(), Stop> {
-    match fs::read_link(rt, at) {
-        Ok(found) if text_of(rt.alloc(), found.display())?.as_str() == to => Ok(()),
-        Err(error) if error.kind() == ErrorKind::NotFound => new_link(rt, to, at),
-        _ => Err(trouble(rt, &[at, " is there already, and is no link to ", to])),
-    }
-}
-
-/// The path of a party's mailbox in a hub's folder, from the root.
-fn mailbox_at(rt: &HostRuntime, hub_dir: &str, me: &Party) -> Result<String, Stop> {
-    let alloc = rt.alloc();
-    let name = party_name(alloc, me)?;
-    let path = below(alloc, hub_dir, name.as_str())?;
-    match fs::canonicalize(rt, path.as_str()) {
-        Ok(whole) => Ok(text_of(alloc, whole.display())?),
-        Err(_) => Err(trouble(
-            rt,
-            &[
-                path.as_str(),
-                " isn't there: van enrol ",
-                hub_dir,
-                " ",
-                name.as_str(),
-                " makes the mailbox",
-            ],
-        )),
-    }
-}
-
-/// Links the folders of a station to its mailbox at the hub: what it puts comes to the hub, and what
-/// the hub puts comes to it.
-fn link_folders(rt: &HostRuntime, dir: &str, hub_dir: &str, me: &Party) -> Result<(), Stop> {
-    let alloc = rt.alloc();
-    let mailbox = mailbox_at(rt, hub_dir, me)?;
-    let mailbox = mailbox.as_str();
-    link(
-        rt,
-        below(alloc, mailbox, "out")?.as_str(),
-        below(alloc, dir, "in")?.as_str(),
-    )?;
-    link(
-        rt,
-        below(alloc, mailbox, "in")?.as_str(),
-        below(alloc, dir, "out")?.as_str(),
-    )
-}
-
 /// Makes folders below a folder.
 pub(crate) fn make_below(rt: &HostRuntime, dir: &str, names: &[&str]) -> Result<(), Stop> {
     for name in names {
@@ -128,7 +159,16 @@ pub(crate) fn make_below(rt: &HostRuntime, dir: &str, names: &[&str]) -> Result<
 }
 
 /// The folders of a station.
-fn station_folders(rt: &HostRuntime, dir: &str, at: Option<&str>, me: &Party) -> Result<(), Stop> {
+fn station_folders(
+    rt: &HostRuntime,
+    dir: &str,
+    at: Option<&str>,
+    me: &Party,
+    hub: &Party,
+) -> Result<(), Stop> {
+    if let Some(hub_dir) = at {
+        want_hub(rt, hub_dir, hub)?;
+    }
     make(rt, dir)?;
     if let Some(hub_dir) = at {
         link_folders(rt, dir, hub_dir, me)?;
@@ -137,8 +177,8 @@ fn station_folders(rt: &HostRuntime, dir: &str, at: Option<&str>, me: &Party) ->
 }
 
 /// The hub that a station is at.
-fn hub_for(rt: &HostRuntime, asked: &Asked<'_>, me: &Party) -> Result<Party, Stop> {
-    let Some(hub) = asked.hub else {
+fn hub_for(rt: &HostRuntime, words: &InitWords<'_>, me: &Party) -> Result<Party, Stop> {
+    let Some(hub) = words.hub else {
         return Err(misuse(
             rt,
             &["--hub is missing: the party of the hub; or --is-hub, where this is the hub"],
@@ -157,11 +197,11 @@ fn hub_for(rt: &HostRuntime, asked: &Asked<'_>, me: &Party) -> Result<Party, Sto
 /// The hub that a station's hub is connected to, if it is.
 fn other_for(
     rt: &HostRuntime,
-    asked: &Asked<'_>,
+    words: &InitWords<'_>,
     me: &Party,
     hub: &Party,
 ) -> Result<Option<Party>, Stop> {
-    let Some(other) = asked.other_hub else {
+    let Some(other) = words.other_hub else {
         return Ok(None);
     };
     let other = wanted_party(rt, "--other-hub", other)?;
@@ -210,15 +250,15 @@ fn say_station(
 fn make_station<O: OpensRecords>(
     rt: &HostRuntime,
     opens: &O,
-    asked: &Asked<'_>,
+    words: &InitWords<'_>,
     me: Party,
 ) -> Result<u8, Stop> {
-    let hub = hub_for(rt, asked, &me)?;
-    let other = other_for(rt, asked, &me, &hub)?;
-    station_folders(rt, asked.dir, asked.at, &me)?;
-    station_records(rt, opens, asked.dir, me, hub, other)?;
-    write_whose(rt, asked.dir, &Whose::Station(me, hub, other))?;
-    say_station(rt, asked.dir, &me, &hub, &other)?;
+    let hub = hub_for(rt, words, &me)?;
+    let other = other_for(rt, words, &me, &hub)?;
+    station_folders(rt, words.dir, words.at, &me, &hub)?;
+    station_records(rt, opens, words.dir, me, hub, other)?;
+    write_whose(rt, words.dir, &Whose::Station(me, hub, other))?;
+    say_station(rt, words.dir, &me, &hub, &other)?;
     Ok(0)
 }
 
@@ -226,23 +266,23 @@ fn make_station<O: OpensRecords>(
 fn make_hub<O: OpensRecords>(
     rt: &HostRuntime,
     opens: &O,
-    asked: &Asked<'_>,
+    words: &InitWords<'_>,
     me: Party,
 ) -> Result<u8, Stop> {
-    if asked.hub.is_some() || asked.at.is_some() {
+    if words.hub.is_some() || words.at.is_some() {
         return Err(misuse(rt, &["--is-hub goes with neither --hub nor --at"]));
     }
-    if asked.other_hub.is_some() {
+    if words.other_hub.is_some() {
         return Err(misuse(
             rt,
             &["--other-hub is for a station: van enrol connects a hub to another one"],
         ));
     }
-    make(rt, asked.dir)?;
-    hub_records(rt, opens, asked.dir, me)?;
-    write_whose(rt, asked.dir, &Whose::Hub(me))?;
+    make(rt, words.dir)?;
+    hub_records(rt, opens, words.dir, me)?;
+    write_whose(rt, words.dir, &Whose::Hub(me))?;
     let me = party_text(rt.alloc(), &me)?;
-    say(rt, &["hub ", me.as_str(), " in ", asked.dir])?;
+    say(rt, &["hub ", me.as_str(), " in ", words.dir])?;
     Ok(0)
 }
 
@@ -250,15 +290,15 @@ fn make_hub<O: OpensRecords>(
 pub(crate) fn init<O: OpensRecords>(
     rt: &HostRuntime,
     opens: &O,
-    asked: &Asked<'_>,
+    words: &InitWords<'_>,
 ) -> Result<u8, Stop> {
-    let me = wanted_party(rt, "--me", asked.me.unwrap_or(""))?;
-    if is_mailbox(rt, asked.dir)? {
-        return Err(is_made(rt, asked.dir));
+    let me = wanted_party(rt, "--me", words.me.unwrap_or(""))?;
+    if is_mailbox(rt, words.dir)? {
+        return Err(is_made(rt, words.dir));
     }
-    if asked.is_hub {
-        make_hub(rt, opens, asked, me)
+    if words.is_hub {
+        make_hub(rt, opens, words, me)
     } else {
-        make_station(rt, opens, asked, me)
+        make_station(rt, opens, words, me)
     }
 }

@@ -1,12 +1,9 @@
-//! The names of files: those that say an item's number, and those that are free.
+//! The names of files: those that say an item's number, and those of files that aren't there yet.
 
-use crate::say::fault;
-use crate::words::{below, nine};
+use crate::words::nine;
 use std::alloc::{AllocError, Global};
-use std::io::ErrorKind;
-use std::{fs, str};
 use x12_envelopes::number_of;
-use x12_spool::{SpoolFault, Word};
+use x12_spool::Word;
 
 /// A name that says a number.
 pub(crate) fn named(
@@ -66,43 +63,12 @@ pub(crate) fn word_in(name: &[u8], names: Names) -> Word {
     }
 }
 
-/// How many names are tried.
-const TRIES: u32 = 10_000;
+/// What the names of files end with that are still being written, by those who write them so.
+const UNFINISHED: [&str; 4] = ["~", ".tmp", ".part", ".filepart"];
 
-/// Whether a name is free in a folder, or is that of a file with these bytes.
-fn serves(rt: &HostRuntime, folder: &str, name: &str, bytes: &[u8]) -> Result<bool, SpoolFault> {
-    let path = below(rt.alloc(), folder, name)?;
-    match fs::read(rt, path.as_str()) {
-        Ok(found) => Ok(found.as_slice() == bytes),
-        Err(error) if error.kind() == ErrorKind::NotFound => Ok(true),
-        Err(error) => Err(fault(rt, path.as_str(), "it can't be read", &error)),
-    }
-}
-
-/// A name with a number behind it, but for the first.
-fn tried(alloc: Global, name: &str, n: u32) -> Result<String, AllocError> {
-    if n == 1 {
-        return String::from_str(alloc, name);
-    }
-    format!(in alloc; "{name}.{n}")
-}
-
-/// The first name like this one that is free in a folder, or is that of a file with these bytes: so
-/// that nothing that was kept is overwritten by something else.
-pub(crate) fn free_name(
-    rt: &HostRuntime,
-    folder: &str,
-    name: &[u8],
-    bytes: &[u8],
-) -> Result<String, SpoolFault> {
-    let Ok(name) = str::from_utf8(name) else {
-        return Err(SpoolFault::Files);
-    };
-    for n in 1..TRIES {
-        let name = tried(rt.alloc(), name, n)?;
-        if serves(rt, folder, name.as_str(), bytes)? {
-            return Ok(name);
-        }
-    }
-    Err(SpoolFault::Files)
+/// Whether a name is that of a file that isn't there yet.
+pub(crate) fn is_unfinished(name: &[u8]) -> bool {
+    UNFINISHED
+        .iter()
+        .any(|end: &&str| -> bool { name.ends_with(end.as_bytes()) })
 }

@@ -1,18 +1,69 @@
 //! `van postings`: the accepted sets of a station, listed or written into files.
 
-use crate::asked::Asked;
 use crate::folder::{make, put, stands};
 use crate::history::unanswered;
 use crate::opening::{OpensRecords, open_a_station};
+use crate::options::{DIR, STATUSES, text};
 use crate::say::{misuse, say, text_of};
 use crate::status::key_text;
 use crate::stop::Stop;
 use crate::words::{below, party_name, party_text, shown};
+use clap::ArgMatches;
+use command_table::{Kind, Row, Word};
 use std::alloc::{AllocError, Global};
 use x12_acks::SetKey;
 use x12_envelopes::number_of;
 use x12_inbound::Posting;
 use x12_station::Records;
+
+/// The words of the command.
+static WORDS: [Word; 3] = [
+    DIR,
+    Word {
+        kind: Kind::Value,
+        name: "into",
+        value: "FOLDER",
+        help: "Writes each into a file of this folder, unless that is there",
+    },
+    Word {
+        kind: Kind::Value,
+        name: "from",
+        value: "N",
+        help: "Leaves out those in front of this one, from 1",
+    },
+];
+
+/// The command's part of the command line.
+pub(crate) fn row() -> Row {
+    Row {
+        name: "postings",
+        about: "Lists the accepted sets of a station, or writes them into files.",
+        more: STATUSES,
+        words: &WORDS,
+    }
+}
+
+/// What the words say.
+#[derive(Clone, Copy)]
+pub(crate) struct PostingsWords<'a> {
+    /// The folder.
+    dir: &'a str,
+    /// `--into`.
+    into: Option<&'a str>,
+    /// `--from`.
+    from: Option<&'a str>,
+}
+
+impl<'a> PostingsWords<'a> {
+    /// Reads the words.
+    pub(crate) fn of(found: &ArgMatches<'a>) -> PostingsWords<'a> {
+        PostingsWords {
+            dir: text(found, "dir"),
+            into: found.get_str("into"),
+            from: found.get_str("from"),
+        }
+    }
+}
 
 /// The name of the file of a posting, as `ZZALPHA-000000001-01-001.850`.
 pub(crate) fn name_of(alloc: Global, posting: &Posting) -> Result<String, AllocError> {
@@ -70,11 +121,11 @@ fn say_one(rt: &HostRuntime, number: usize, posting: &Posting) -> Result<(), Sto
 /// Lists or writes a posting.
 fn hand_out(
     rt: &HostRuntime,
-    asked: &Asked<'_>,
+    words: &PostingsWords<'_>,
     number: usize,
     posting: &Posting,
 ) -> Result<(), Stop> {
-    match asked.into {
+    match words.into {
         Some(folder) => write_one(rt, folder, posting),
         None => say_one(rt, number, posting),
     }
@@ -83,7 +134,7 @@ fn hand_out(
 /// Lists or writes the postings from a number on.
 fn hand_out_each(
     rt: &HostRuntime,
-    asked: &Asked<'_>,
+    words: &PostingsWords<'_>,
     from: usize,
     postings: &[Posting],
 ) -> Result<u8, Stop> {
@@ -91,15 +142,15 @@ fn hand_out_each(
     for posting in postings {
         number = number.saturating_add(1);
         if number >= from {
-            hand_out(rt, asked, number, posting)?;
+            hand_out(rt, words, number, posting)?;
         }
     }
     Ok(0)
 }
 
 /// The number of the first posting that is asked for.
-fn first(rt: &HostRuntime, asked: &Asked<'_>) -> Result<usize, Stop> {
-    let Some(word) = asked.from else {
+fn first(rt: &HostRuntime, words: &PostingsWords<'_>) -> Result<usize, Stop> {
+    let Some(word) = words.from else {
         return Ok(1);
     };
     match number_of(word.as_bytes()) {
@@ -114,18 +165,18 @@ fn first(rt: &HostRuntime, asked: &Asked<'_>) -> Result<usize, Stop> {
 /// The postings of a station.
 fn postings_at<R: Records>(
     rt: &HostRuntime,
-    asked: &Asked<'_>,
+    words: &PostingsWords<'_>,
     from: usize,
     records: &mut R,
 ) -> Result<u8, Stop>
     requires { R.valid records.old }
 {
-    if let Some(folder) = asked.into {
+    if let Some(folder) = words.into {
         make(rt, folder)?;
     }
     match records.postings() {
-        Ok(postings) => hand_out_each(rt, asked, from, &postings),
-        Err(fault) => Err(unanswered(rt, asked.dir, fault)),
+        Ok(postings) => hand_out_each(rt, words, from, &postings),
+        Err(fault) => Err(unanswered(rt, words.dir, fault)),
     }
 }
 
@@ -133,9 +184,9 @@ fn postings_at<R: Records>(
 pub(crate) fn postings<O: OpensRecords>(
     rt: &HostRuntime,
     opens: &O,
-    asked: &Asked<'_>,
+    words: &PostingsWords<'_>,
 ) -> Result<u8, Stop> {
-    let from = first(rt, asked)?;
-    let mut records = open_a_station(rt, opens, asked.dir)?.close();
-    postings_at(rt, asked, from, &mut records)
+    let from = first(rt, words)?;
+    let mut records = open_a_station(rt, opens, words.dir)?.close();
+    postings_at(rt, words, from, &mut records)
 }

@@ -1,13 +1,16 @@
 //! `van reconcile`: senders' fates against receivers' postings, byte by byte, over what is on disk.
 
-use crate::asked::{Asked, Form};
 use crate::books::{Books, Sent, all_books, books_for};
+use crate::form::Form;
 use crate::history::Submitted;
 use crate::opening::OpensRecords;
+use crate::options::{CSV, DIR, JSON, form_of, text};
 use crate::say::{say, say_columns};
 use crate::status::key_text;
 use crate::stop::Stop;
 use crate::words::{last_word, party_text};
+use clap::ArgMatches;
+use command_table::{Kind, Row, Word};
 use std::alloc::{AllocError, Global};
 use std::str;
 use x12_acks::SetKey;
@@ -15,6 +18,65 @@ use x12_envelopes::Party;
 use x12_inbound::Posting;
 use x12_report::{Audit, report};
 use x12_words::fate_word;
+
+const MORE: &str = "\
+A line of the report tells of one submitted transaction set: its sender, number,
+group and place, its receiver, how it fares, how often it stands in its
+receiver's postings, and a mark.
+  ok   accepted or noted and posted once, rejected and not posted, or pending and
+       posted at most once, and each time byte for byte as it was submitted
+  BAD  anything else, as a posting that its sender never submitted
+  ext  the receiver's folder isn't among these
+
+Exit status:
+  0  no line says BAD
+  1  a line does, or a folder can't be read
+  2  the command line is wrong";
+
+/// The words of the command.
+static WORDS: [Word; 4] = [
+    DIR,
+    Word {
+        kind: Kind::Many,
+        name: "more",
+        value: "DIR",
+        help: "More folders of stations",
+    },
+    JSON,
+    CSV,
+];
+
+/// The command's part of the command line.
+pub(crate) fn row() -> Row {
+    Row {
+        name: "reconcile",
+        about: "Holds senders' fates against receivers' postings, byte by byte.",
+        more: MORE,
+        words: &WORDS,
+    }
+}
+
+/// What the words say.
+#[derive(Clone, Copy)]
+pub(crate) struct ReconcileWords<'w, 'a> {
+    /// The first folder.
+    pub(crate) dir: &'a str,
+    /// The others.
+    pub(crate) more: Option<&'w [&'a str]>,
+    /// `--json`, `--csv`.
+    pub(crate) form: Form,
+}
+
+impl<'w, 'a> ReconcileWords<'w, 'a> {
+    /// Reads the words.
+    pub(crate) fn of(found: &'w ArgMatches<'a>) -> ReconcileWords<'w, 'a> {
+        ReconcileWords {
+            dir: text(found, "dir"),
+            more: found.get_strs("more"),
+            form: form_of(found),
+        }
+    }
+}
 
 /// The members of an object that say which set it is of.
 fn key_members(alloc: Global, key: &SetKey, receiver: &Party) -> Result<String, AllocError> {
@@ -155,18 +217,18 @@ fn audit_posted(rt: &HostRuntime, form: Form, all: &[Books], books: &Books) -> R
 pub(crate) fn reconcile<O: OpensRecords>(
     rt: &HostRuntime,
     opens: &O,
-    asked: &Asked<'_>,
+    words: &ReconcileWords<'_, '_>,
 ) -> Result<u8, Stop> {
-    let all = all_books(rt, opens, asked)?;
+    let all = all_books(rt, opens, words)?;
     let mut well = true;
     say_columns(
         rt,
-        asked.form,
+        words.form,
         "from,interchange,group,set,to,fate,posted,mark",
     )?;
     for books in &all {
-        well &= audit_sent(rt, asked.form, &all, books)?;
-        well &= audit_posted(rt, asked.form, &all, books)?;
+        well &= audit_sent(rt, words.form, &all, books)?;
+        well &= audit_posted(rt, words.form, &all, books)?;
     }
     Ok(if well { 0 } else { 1 })
 }

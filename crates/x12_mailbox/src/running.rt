@@ -1,20 +1,93 @@
 //! `van run`: the turns of a hub, and those of what a folder is.
 
-use crate::asked::Asked;
 use crate::clock::moment;
 use crate::connecting::mailboxes_of;
 use crate::enrolling::hub_trouble;
 use crate::files::{Files, files_in};
 use crate::naming::Names;
 use crate::opening::{Opened, OpensRecords, open};
+use crate::options::{DIR, NOW, STATUSES, text};
 use crate::station_turns::run_station;
 use crate::stop::Stop;
 use crate::turns::{Pace, Turns, is_done, pace_of, take_turns};
 use crate::words::{below, party_name};
+use clap::ArgMatches;
+use command_table::{Kind, Row, Word};
 use std::alloc::{AllocError, Global};
 use x12_envelopes::{Moment, Party};
 use x12_hub::{Hub, HubRecords};
 use x12_spool::{Depositor, HubAt, put_offers, run_turn};
+
+/// The words of the command.
+static WORDS: [Word; 6] = [
+    DIR,
+    Word {
+        kind: Kind::Flag,
+        name: "resend",
+        value: "",
+        help: "A station sends again all that isn't answered yet",
+    },
+    Word {
+        kind: Kind::Value,
+        name: "watch",
+        value: "SECONDS",
+        help: "Goes on, and looks again after so many seconds; what isn't answered is sent again after 1, 2, 4 .. 64 minutes",
+    },
+    Word {
+        kind: Kind::Value,
+        name: "turns",
+        value: "N",
+        help: "Ends after so many turns of --watch",
+    },
+    Word {
+        kind: Kind::Value,
+        name: "handed",
+        value: "N",
+        help: "Says that N sets were handed over before, where the file `handed` is missing",
+    },
+    NOW,
+];
+
+/// The command's part of the command line.
+pub(crate) fn row() -> Row {
+    Row {
+        name: "run",
+        about: "Takes what came, and puts what goes on: a turn of a station or of a hub.",
+        more: STATUSES,
+        words: &WORDS,
+    }
+}
+
+/// What the words say.
+#[derive(Clone, Copy)]
+pub(crate) struct RunWords<'a> {
+    /// The folder.
+    pub(crate) dir: &'a str,
+    /// `--resend`.
+    pub(crate) resend: bool,
+    /// `--watch`.
+    pub(crate) watch: Option<&'a str>,
+    /// `--turns`.
+    pub(crate) turns: Option<&'a str>,
+    /// `--now`.
+    pub(crate) now: Option<&'a str>,
+    /// `--handed`.
+    pub(crate) handed: Option<&'a str>,
+}
+
+impl<'a> RunWords<'a> {
+    /// Reads the words.
+    pub(crate) fn of(found: &ArgMatches<'a>) -> RunWords<'a> {
+        RunWords {
+            dir: text(found, "dir"),
+            resend: found.get_flag("resend"),
+            watch: found.get_str("watch"),
+            turns: found.get_str("turns"),
+            now: found.get_str("now"),
+            handed: found.get_str("handed"),
+        }
+    }
+}
 
 /// A hub that takes turns over its mailboxes.
 struct HubTurns<'a, H: HubRecords> {
@@ -53,7 +126,7 @@ fn take_from_each<H: HubRecords>(
     for mailbox in mailboxes {
         let mut files = turn_to(rt, node, dir, mailbox)?;
         let took = run_turn(rt.alloc(), node, &mut files);
-        done &= is_done(rt, dir, took)?;
+        done &= is_done(rt, dir, took)? & !files.is_troubled;
     }
     Ok(done)
 }
@@ -136,14 +209,14 @@ where
 /// The turns of a hub.
 fn run_hub<H: HubRecords + Drop>(
     rt: &HostRuntime,
-    asked: &Asked<'_>,
+    words: &RunWords<'_>,
     pace: Option<Pace>,
     at: &Moment,
     hub: Hub<H>,
 ) -> Result<u8, Stop> {
     let party = hub.party();
-    let (hub, directory) = with_mailboxes(rt, asked.dir, hub)?;
-    let mailboxes = match mailboxes_of(rt, asked.dir, &directory) {
+    let (hub, directory) = with_mailboxes(rt, words.dir, hub)?;
+    let mailboxes = match mailboxes_of(rt, words.dir, &directory) {
         Ok(mailboxes) => mailboxes,
         Err(stop) => {
             drop(hub.close());
@@ -160,9 +233,9 @@ fn run_hub<H: HubRecords + Drop>(
     let turns = HubTurns {
         node,
         mailboxes,
-        dir: asked.dir,
+        dir: words.dir,
     };
-    let (turns, done) = take_turns(rt, turns, asked, pace, at);
+    let (turns, done) = take_turns(rt, turns, words, pace, at);
     let HubTurns {
         node,
         mailboxes: _,
@@ -183,12 +256,12 @@ fn run_hub<H: HubRecords + Drop>(
 pub(crate) fn run<O: OpensRecords>(
     rt: &HostRuntime,
     opens: &O,
-    asked: &Asked<'_>,
+    words: &RunWords<'_>,
 ) -> Result<u8, Stop> {
-    let pace = pace_of(rt, asked)?;
-    let at = moment(rt, asked.now)?;
-    match open(rt, opens, asked.dir)? {
-        Opened::Station(station) => run_station(rt, opens, asked, pace, &at, station),
-        Opened::Hub(hub) => run_hub(rt, asked, pace, &at, hub),
+    let pace = pace_of(rt, words)?;
+    let at = moment(rt, words.now)?;
+    match open(rt, opens, words.dir)? {
+        Opened::Station(station) => run_station(rt, opens, words, pace, &at, station),
+        Opened::Hub(hub) => run_hub(rt, words, pace, &at, hub),
     }
 }

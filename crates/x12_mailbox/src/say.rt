@@ -1,6 +1,6 @@
 //! What is said: lines on standard output, sentences on standard error.
 
-use crate::asked::Form;
+use crate::form::Form;
 use crate::stop::Stop;
 use std::alloc::{AllocError, Global};
 use std::fmt::Display;

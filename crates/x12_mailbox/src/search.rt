@@ -1,6 +1,7 @@
 //! What `van log` looks for, and the line of what it found.
 
-use crate::asked::{Asked, Form};
+use crate::form::Form;
+use crate::logging::LogWords;
 use crate::say::{misuse, say, say_columns, trouble};
 use crate::stop::Stop;
 use crate::words::{party_text, wanted_party};
@@ -155,16 +156,16 @@ impl<'a> Search<'a> {
 }
 
 /// The partner that is asked for.
-fn partner_of(rt: &HostRuntime, asked: &Asked<'_>) -> Result<Option<Party>, Stop> {
-    match asked.partner {
+fn partner_of(rt: &HostRuntime, words: &LogWords<'_>) -> Result<Option<Party>, Stop> {
+    match words.partner {
         Some(word) => Ok(Some(wanted_party(rt, "--partner", word)?)),
         None => Ok(None),
     }
 }
 
 /// The number that is asked for.
-fn number_wanted(rt: &HostRuntime, asked: &Asked<'_>) -> Result<Option<u32>, Stop> {
-    let Some(word) = asked.number else {
+fn number_wanted(rt: &HostRuntime, words: &LogWords<'_>) -> Result<Option<u32>, Stop> {
+    let Some(word) = words.number else {
         return Ok(None);
     };
     match number_of(word.as_bytes()) {
@@ -180,17 +181,17 @@ fn number_wanted(rt: &HostRuntime, asked: &Asked<'_>) -> Result<Option<u32>, Sto
 }
 
 /// What the command line looks for.
-pub(crate) fn search_of<'a>(rt: &'a HostRuntime, asked: &Asked<'a>) -> Result<Search<'a>, Stop> {
-    let partner = partner_of(rt, asked)?;
-    let number = number_wanted(rt, asked)?;
+pub(crate) fn search_of<'a>(rt: &'a HostRuntime, words: &LogWords<'a>) -> Result<Search<'a>, Stop> {
+    let partner = partner_of(rt, words)?;
+    let number = number_wanted(rt, words)?;
     Ok(Search {
         rt,
-        dir: asked.dir,
+        dir: words.dir,
         partner,
         number,
-        text: asked.text,
-        bytes: asked.bytes,
-        form: asked.form,
+        text: words.text,
+        bytes: words.bytes,
+        form: words.form,
         found: false,
     })
 }

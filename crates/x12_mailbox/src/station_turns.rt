@@ -1,12 +1,12 @@
 //! The turns of a station: what lies in `submit` is submitted, what came is taken, what was accepted is
 //! handed over, and what isn't answered is sent again.
 
-use crate::asked::Asked;
 use crate::files::{Files, files_in};
 use crate::folder::make;
 use crate::handing::{Posted, hand_over_all, posted_over};
 use crate::naming::Names;
 use crate::opening::OpensRecords;
+use crate::running::RunWords;
 use crate::say::{say, text_of};
 use crate::stop::Stop;
 use crate::turns::{Pace, Turns, is_done, take_turns};
@@ -52,7 +52,7 @@ fn take_waiting<R: Records>(
 ) -> Result<bool, Stop> {
     let before = node.station.counts().settled;
     let took = run_turn(rt.alloc(), node, &mut folders.files);
-    let done = is_done(rt, folders.dir, took)?;
+    let done = is_done(rt, folders.dir, took)? & !folders.files.is_troubled;
     say_settled(rt, folders.dir, before, node.station.counts().settled)?;
     Ok(done)
 }
@@ -82,7 +82,7 @@ fn go_on<R: Records>(
     submitted: Result<bool, Stop>,
     tick: Option<u64>,
 ) -> Result<bool, Stop> {
-    let submitted = submitted?;
+    let submitted = submitted? & !folders.submit.is_troubled;
     Ok(take_and_put(rt, node, folders, tick)? & submitted)
 }
 
@@ -108,13 +108,14 @@ fn folders_of<'a, R: Records>(
     rt: &'a HostRuntime,
     dir: &'a str,
     station: &mut Station<R>,
+    handed: Option<&str>,
 ) -> Result<Folders<'a>, Stop> {
     let submit = files_in(rt, dir, "submit", "out", Names::Plain)?;
     make(rt, submit.from.as_str())?;
     Ok(Folders {
         submit,
         files: files_in(rt, dir, "in", "out", Names::Items)?,
-        posted: posted_over(rt, dir, station)?,
+        posted: posted_over(rt, dir, station, handed)?,
         dir,
     })
 }
@@ -123,13 +124,13 @@ fn folders_of<'a, R: Records>(
 pub(crate) fn run_station<O: OpensRecords>(
     rt: &HostRuntime,
     opens: &O,
-    asked: &Asked<'_>,
+    words: &RunWords<'_>,
     pace: Option<Pace>,
     at: &Moment,
     station: Station<O::Station>,
 ) -> Result<u8, Stop> {
     let mut station = station;
-    let folders = match folders_of(rt, asked.dir, &mut station) {
+    let folders = match folders_of(rt, words.dir, &mut station, words.handed) {
         Ok(folders) => folders,
         Err(stop) => {
             drop(station.close());
@@ -139,7 +140,7 @@ pub(crate) fn run_station<O: OpensRecords>(
     let alloc = rt.alloc();
     let at = *at;
     let node = StationAt { alloc, station, at };
-    let (turns, done) = take_turns(rt, StationTurns { node, folders }, asked, pace, &at);
+    let (turns, done) = take_turns(rt, StationTurns { node, folders }, words, pace, &at);
     let StationTurns { node, folders: _ } = turns;
     let StationAt {
         alloc: _,

@@ -1,12 +1,15 @@
 //! `van status`: how each submitted set of a station fares, or what waits at a hub.
 
-use crate::asked::{Asked, Form};
 use crate::enrolling::hub_trouble;
+use crate::form::Form;
 use crate::history::{Look, Submitted, look_at_all, sets_of, unanswered};
 use crate::opening::{Opened, OpensRecords, open};
+use crate::options::{CSV, DIR, JSON, STATUSES, form_of, text};
 use crate::say::{say, say_columns};
 use crate::stop::Stop;
 use crate::words::{party_text, shown};
+use clap::ArgMatches;
+use command_table::{Kind, Row, Word};
 use std::alloc::{AllocError, Global};
 use x12_acks::SetKey;
 use x12_envelopes::{Party, read_header};
@@ -14,6 +17,51 @@ use x12_hub::{HubLoaded, HubRecords};
 use x12_outbound::{Entry, Fate};
 use x12_station::Records;
 use x12_words::fate_word;
+
+/// The words of the command.
+static WORDS: [Word; 4] = [
+    DIR,
+    Word {
+        kind: Kind::Flag,
+        name: "overdue",
+        value: "",
+        help: "Only sets that are pending still, the oldest first",
+    },
+    JSON,
+    CSV,
+];
+
+/// The command's part of the command line.
+pub(crate) fn row() -> Row {
+    Row {
+        name: "status",
+        about: "Says how each submitted set of a station fares, or what waits at a hub.",
+        more: STATUSES,
+        words: &WORDS,
+    }
+}
+
+/// What the words say.
+#[derive(Clone, Copy)]
+pub(crate) struct StatusWords<'a> {
+    /// The folder.
+    dir: &'a str,
+    /// `--overdue`.
+    overdue: bool,
+    /// `--json`, `--csv`.
+    form: Form,
+}
+
+impl<'a> StatusWords<'a> {
+    /// Reads the words.
+    pub(crate) fn of(found: &ArgMatches<'a>) -> StatusWords<'a> {
+        StatusWords {
+            dir: text(found, "dir"),
+            overdue: found.get_flag("overdue"),
+            form: form_of(found),
+        }
+    }
+}
 
 /// A set's interchange, group and place, as `000000001 01 001`.
 pub(crate) fn key_text(alloc: Global, key: &SetKey) -> Result<String, AllocError> {
@@ -46,6 +94,7 @@ struct Lines<'a> {
     overdue: bool,
     pending: u64,
     accepted: u64,
+    noted: u64,
     rejected: u64,
 }
 
@@ -55,6 +104,7 @@ impl<'a> Lines<'a> {
         let counter = match fate {
             Fate::Pending => &mut self.pending,
             Fate::Accepted => &mut self.accepted,
+            Fate::Noted => &mut self.noted,
             Fate::Rejected => &mut self.rejected,
         };
         *counter = counter.saturating_add(1);
@@ -102,21 +152,22 @@ fn counts_text(lines: &Lines<'_>, postings: usize) -> Result<String, AllocError>
     let alloc = lines.rt.alloc();
     let pending = lines.pending;
     let accepted = lines.accepted;
+    let noted = lines.noted;
     let rejected = lines.rejected;
     if lines.form == Form::Json {
         return format!(in alloc;
-            "{{\"pending\":{pending},\"accepted\":{accepted},\"rejected\":{rejected},\"postings\":{postings}}}"
+            "{{\"pending\":{pending},\"accepted\":{accepted},\"noted\":{noted},\"rejected\":{rejected},\"postings\":{postings}}}"
         );
     }
     format!(in alloc;
-        "{pending} pending, {accepted} accepted, {rejected} rejected; {postings} postings"
+        "{pending} pending, {accepted} accepted, {noted} noted, {rejected} rejected; {postings} postings"
     )
 }
 
 /// The status of a station.
 fn station_status<R: Records>(
     rt: &HostRuntime,
-    asked: &Asked<'_>,
+    words: &StatusWords<'_>,
     me: Party,
     records: &mut R,
 ) -> Result<u8, Stop>
@@ -125,20 +176,21 @@ fn station_status<R: Records>(
     let mut lines = Lines {
         rt,
         me,
-        form: asked.form,
-        overdue: asked.overdue,
+        form: words.form,
+        overdue: words.overdue,
         pending: 0,
         accepted: 0,
+        noted: 0,
         rejected: 0,
     };
-    say_columns(rt, asked.form, "interchange,group,set,to,at,fate")?;
-    look_at_all(rt, asked.dir, records, &mut lines)?;
-    if asked.form == Form::Csv {
+    say_columns(rt, words.form, "interchange,group,set,to,at,fate")?;
+    look_at_all(rt, words.dir, records, &mut lines)?;
+    if words.form == Form::Csv {
         return Ok(0);
     }
     match records.postings() {
         Ok(postings) => say(rt, &[counts_text(&lines, postings.len())?.as_str()])?,
-        Err(fault) => return Err(unanswered(rt, asked.dir, fault)),
+        Err(fault) => return Err(unanswered(rt, words.dir, fault)),
     }
     Ok(0)
 }
@@ -170,13 +222,13 @@ fn mailbox_text(
 }
 
 /// Prints how many items wait in each mailbox.
-fn say_waiting(rt: &HostRuntime, asked: &Asked<'_>, loaded: &HubLoaded) -> Result<(), Stop> {
+fn say_waiting(rt: &HostRuntime, words: &StatusWords<'_>, loaded: &HubLoaded) -> Result<(), Stop> {
     let alloc = rt.alloc();
-    say_columns(rt, asked.form, "party,mailbox,waiting")?;
+    say_columns(rt, words.form, "party,mailbox,waiting")?;
     for (party, node) in &loaded.directory {
         let party = party_text(alloc, party)?;
         let count = waiting(loaded, *node);
-        let line = mailbox_text(alloc, asked.form, party.as_str(), *node, count)?;
+        let line = mailbox_text(alloc, words.form, party.as_str(), *node, count)?;
         say(rt, &[line.as_str()])?;
     }
     Ok(())
@@ -185,14 +237,14 @@ fn say_waiting(rt: &HostRuntime, asked: &Asked<'_>, loaded: &HubLoaded) -> Resul
 /// The status of a hub.
 fn hub_status<H: HubRecords>(
     rt: &HostRuntime,
-    asked: &Asked<'_>,
+    words: &StatusWords<'_>,
     records: &mut H,
 ) -> Result<u8, Stop>
     requires { H.valid records.old }
 {
     match records.load() {
-        Ok(loaded) => say_waiting(rt, asked, &loaded)?,
-        Err(fault) => return Err(hub_trouble(rt, asked.dir, fault.into())),
+        Ok(loaded) => say_waiting(rt, words, &loaded)?,
+        Err(fault) => return Err(hub_trouble(rt, words.dir, fault.into())),
     }
     Ok(0)
 }
@@ -201,17 +253,17 @@ fn hub_status<H: HubRecords>(
 pub(crate) fn status<O: OpensRecords>(
     rt: &HostRuntime,
     opens: &O,
-    asked: &Asked<'_>,
+    words: &StatusWords<'_>,
 ) -> Result<u8, Stop> {
-    match open(rt, opens, asked.dir)? {
+    match open(rt, opens, words.dir)? {
         Opened::Station(station) => {
             let me = station.party();
             let mut records = station.close();
-            station_status(rt, asked, me, &mut records)
+            station_status(rt, words, me, &mut records)
         }
         Opened::Hub(hub) => {
             let mut records = hub.close();
-            hub_status(rt, asked, &mut records)
+            hub_status(rt, words, &mut records)
         }
     }
 }

@@ -1,19 +1,84 @@
 //! `van submit`: a station keeps interchanges, and puts them where they go on.
 
 use crate::agreeing::station_trouble;
-use crate::asked::Asked;
 use crate::clock::moment;
-use crate::files::{Files, bytes_of, files_in};
+use crate::files::{Files, files_in};
 use crate::naming::Names;
 use crate::opening::{OpensRecords, open_a_station};
+use crate::options::{DIR, NOW, STATUSES, text};
 use crate::reason::{node_text, reason_text};
 use crate::say::{misuse, refusal, text_of, trouble, trouble_at};
 use crate::stop::Stop;
+use crate::taking::bytes_of;
 use crate::words::wanted_party;
+use clap::ArgMatches;
+use command_table::{Kind, Row, Word};
 use std::alloc::{AllocError, Global};
 use x12_envelopes::{Moment, Party, split_transmission};
 use x12_spool::{Answer, Node, Spool, Submitting};
 use x12_station::{Body, Records, Station};
+
+/// The words of the command.
+static WORDS: [Word; 5] = [
+    DIR,
+    Word {
+        kind: Kind::Many,
+        name: "files",
+        value: "FILE",
+        help: "A file of prepared interchanges",
+    },
+    Word {
+        kind: Kind::Value,
+        name: "to",
+        value: "QQID",
+        help: "Who gets the orders, as ZZBETA",
+    },
+    Word {
+        kind: Kind::Values,
+        name: "order",
+        value: "TEXT",
+        help: "The number of an order (BEG03), in place of files",
+    },
+    NOW,
+];
+
+/// The command's part of the command line.
+pub(crate) fn row() -> Row {
+    Row {
+        name: "submit",
+        about: "Submits interchanges or orders of a station.",
+        more: STATUSES,
+        words: &WORDS,
+    }
+}
+
+/// What the words say.
+#[derive(Clone, Copy)]
+pub(crate) struct SubmitWords<'w, 'a> {
+    /// The folder.
+    dir: &'a str,
+    /// The files.
+    files: Option<&'w [&'a str]>,
+    /// `--to`.
+    to: Option<&'a str>,
+    /// `--order`.
+    orders: Option<&'w [&'a str]>,
+    /// `--now`.
+    now: Option<&'a str>,
+}
+
+impl<'w, 'a> SubmitWords<'w, 'a> {
+    /// Reads the words.
+    pub(crate) fn of(found: &'w ArgMatches<'a>) -> SubmitWords<'w, 'a> {
+        SubmitWords {
+            dir: text(found, "dir"),
+            files: found.get_strs("files"),
+            to: found.get_str("to"),
+            orders: found.get_strs("order"),
+            now: found.get_str("now"),
+        }
+    }
+}
 
 /// The order of this number (BEG03), of a date: one item, ten of it at five.
 fn order<'a>(alloc: Global, number: &'a [u8], date: &'a [u8]) -> Result<Body, AllocError> {
@@ -37,17 +102,17 @@ fn submit_orders<R: Records>(
     rt: &HostRuntime,
     station: &mut Station<R>,
     files: &mut Files<'_>,
-    asked: &Asked<'_>,
+    words: &SubmitWords<'_, '_>,
     to: Party,
     at: &Moment,
 ) -> Result<u8, Stop> {
-    let orders = orders(rt.alloc(), asked.orders, at)?;
+    let orders = orders(rt.alloc(), words.orders.unwrap_or(&[]), at)?;
     match station.submit_orders(to, at, &orders) {
         Ok(sent) => {
             files.send(&sent.bytes)?;
             Ok(0)
         }
-        Err(fault) => Err(station_trouble(rt, asked.dir, fault)),
+        Err(fault) => Err(station_trouble(rt, words.dir, fault)),
     }
 }
 
@@ -130,14 +195,14 @@ fn submit_files<R: Records>(
 fn submit_texts<O: OpensRecords>(
     rt: &HostRuntime,
     opens: &O,
-    asked: &Asked<'_>,
+    words: &SubmitWords<'_, '_>,
     to: &str,
 ) -> Result<u8, Stop> {
     let to = wanted_party(rt, "--to", to)?;
-    let at = moment(rt, asked.now)?;
-    let mut files = files_in(rt, asked.dir, "submit", "out", Names::Plain)?;
-    let mut station = open_a_station(rt, opens, asked.dir)?;
-    let done = submit_orders(rt, &mut station, &mut files, asked, to, &at);
+    let at = moment(rt, words.now)?;
+    let mut files = files_in(rt, words.dir, "submit", "out", Names::Plain)?;
+    let mut station = open_a_station(rt, opens, words.dir)?;
+    let done = submit_orders(rt, &mut station, &mut files, words, to, &at);
     drop(station.close());
     done
 }
@@ -146,15 +211,15 @@ fn submit_texts<O: OpensRecords>(
 fn submit_named<O: OpensRecords>(
     rt: &HostRuntime,
     opens: &O,
-    asked: &Asked<'_>,
+    words: &SubmitWords<'_, '_>,
 ) -> Result<u8, Stop> {
-    let mut files = files_in(rt, asked.dir, "submit", "out", Names::Plain)?;
-    let station = open_a_station(rt, opens, asked.dir)?;
+    let mut files = files_in(rt, words.dir, "submit", "out", Names::Plain)?;
+    let station = open_a_station(rt, opens, words.dir)?;
     let mut node = Submitting {
         alloc: rt.alloc(),
         station,
     };
-    let done = submit_files(rt, &mut node, &mut files, asked.words);
+    let done = submit_files(rt, &mut node, &mut files, words.files.unwrap_or(&[]));
     let Submitting { alloc: _, station } = node;
     drop(station.close());
     done
@@ -164,15 +229,11 @@ fn submit_named<O: OpensRecords>(
 pub(crate) fn submit<O: OpensRecords>(
     rt: &HostRuntime,
     opens: &O,
-    asked: &Asked<'_>,
+    words: &SubmitWords<'_, '_>,
 ) -> Result<u8, Stop> {
-    match asked.to {
-        Some(to) if asked.words.is_empty() && !asked.orders.is_empty() => submit_texts(
-            rt, opens, asked, to,
-        ),
-        None if asked.orders.is_empty() && !asked.words.is_empty() => submit_named(
-            rt, opens, asked,
-        ),
+    match (words.to, words.orders, words.files) {
+        (Some(to), Some(_), None) => submit_texts(rt, opens, words, to),
+        (None, None, Some(_)) => submit_named(rt, opens, words),
         _ => Err(misuse(rt, &["submit wants FILE .., or --to QQID --order TEXT .."])),
     }
 }

@@ -1,9 +1,9 @@
 //! `van run`: one turn, or turn after turn.
 
-use crate::asked::Asked;
 use crate::clock::{moment, seconds};
 use crate::folder::put;
 use crate::reason::node_text;
+use crate::running::RunWords;
 use crate::say::{misuse, trouble_at};
 use crate::stop::Stop;
 use std::alloc::{AllocError, Global};
@@ -45,23 +45,23 @@ fn number(rt: &HostRuntime, what: &str, word: &str) -> Result<u32, Stop> {
 }
 
 /// The turns that `--turns` asks for, or else no end.
-fn turns_of(rt: &HostRuntime, asked: &Asked<'_>) -> Result<u64, Stop> {
-    match asked.turns {
+fn turns_of(rt: &HostRuntime, words: &RunWords<'_>) -> Result<u64, Stop> {
+    match words.turns {
         Some(word) => Ok(u64::from(number(rt, "--turns", word)?)),
         None => Ok(u64::MAX),
     }
 }
 
 /// The pace that the command line asks for; `None` where it asks for one turn.
-pub(crate) fn pace_of(rt: &HostRuntime, asked: &Asked<'_>) -> Result<Option<Pace>, Stop> {
-    let Some(word) = asked.watch else {
-        if asked.turns.is_some() {
+pub(crate) fn pace_of(rt: &HostRuntime, words: &RunWords<'_>) -> Result<Option<Pace>, Stop> {
+    let Some(word) = words.watch else {
+        if words.turns.is_some() {
             return Err(misuse(rt, &["--turns goes with --watch"]));
         }
         return Ok(None);
     };
     let seconds = number(rt, "--watch", word)?;
-    let turns = turns_of(rt, asked)?;
+    let turns = turns_of(rt, words)?;
     Ok(Some(Pace { seconds, turns }))
 }
 
@@ -142,8 +142,8 @@ fn told<T: Turns>(
 }
 
 /// The moment of the next of several turns, and how many minutes have passed since the first.
-fn next_moment(rt: &HostRuntime, asked: &Asked<'_>, start: u64) -> Result<(Moment, u64), Stop> {
-    let at = moment(rt, asked.now)?;
+fn next_moment(rt: &HostRuntime, words: &RunWords<'_>, start: u64) -> Result<(Moment, u64), Stop> {
+    let at = moment(rt, words.now)?;
     let tick = seconds(rt)?.saturating_sub(start) / 60;
     Ok((at, tick))
 }
@@ -152,10 +152,10 @@ fn next_moment(rt: &HostRuntime, asked: &Asked<'_>, start: u64) -> Result<(Momen
 fn next_turn<T: Turns>(
     rt: &HostRuntime,
     node: T,
-    asked: &Asked<'_>,
+    words: &RunWords<'_>,
     start: u64,
 ) -> (T, Result<bool, Stop>) {
-    match next_moment(rt, asked, start) {
+    match next_moment(rt, words, start) {
         Ok((at, tick)) => node.turn(rt, &at, Some(tick)),
         Err(stop) => (node, Err(stop)),
     }
@@ -165,7 +165,7 @@ fn next_turn<T: Turns>(
 fn watch<T: Turns>(
     rt: &HostRuntime,
     node: T,
-    asked: &Asked<'_>,
+    words: &RunWords<'_>,
     pace: &Pace,
     start: u64,
 ) -> (T, Result<u8, Stop>) {
@@ -175,8 +175,8 @@ fn watch<T: Turns>(
         if turn > 0 {
             sleep(rt, Duration::from_secs(u64::from(pace.seconds)));
         }
-        let (back, done) = next_turn(rt, node, asked, start);
-        last = told(rt, &back, asked.dir, turn, done);
+        let (back, done) = next_turn(rt, node, words, start);
+        last = told(rt, &back, words.dir, turn, done);
         node = back;
         if last.is_err() {
             break;
@@ -189,17 +189,17 @@ fn watch<T: Turns>(
 pub(crate) fn take_turns<T: Turns>(
     rt: &HostRuntime,
     node: T,
-    asked: &Asked<'_>,
+    words: &RunWords<'_>,
     pace: Option<Pace>,
     at: &Moment,
 ) -> (T, Result<u8, Stop>) {
     if let Some(pace) = pace {
         return match seconds(rt) {
-            Ok(start) => watch(rt, node, asked, &pace, start),
+            Ok(start) => watch(rt, node, words, &pace, start),
             Err(stop) => (node, Err(stop)),
         };
     }
-    let tick = if asked.resend { Some(0) } else { None };
+    let tick = if words.resend { Some(0) } else { None };
     let (node, done) = node.turn(rt, at, tick);
     (node, done.map(status))
 }

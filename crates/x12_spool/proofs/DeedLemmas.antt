@@ -21,7 +21,7 @@ pub err_holds : {A E P : Type 0} → P → (r : Result A E) → OnErr r P
 err_holds p (Ok x) = tt
 err_holds p (Err e) = p
 
-one_on : (i : ℕ) → suc i ≡ i + 1
+pub one_on : (i : ℕ) → suc i ≡ i + 1
 one_on i = omega arith
 
 -- a list by one of its places

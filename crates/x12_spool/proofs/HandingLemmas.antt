@@ -5,7 +5,7 @@ use Rattle.x12_acks.specs.Accepted.{AcceptedSet}
 use Rattle.x12_inbound.specs.declared.posting.Posting.{Posting}
 use Rattle.x12_inbound.specs.Posting.{posting_view}
 use Rattle.x12_spool.specs.Deed.{Deed, AddsDeeds, Settles}
-use Rattle.x12_spool.specs.Handing.{drafted_marked_named, hands_new, hands_over}
+use Rattle.x12_spool.specs.Handing.{drafted_synced_marked_named, hands_new, hands_over}
 use Rattle.x12_spool.specs.Offering.{AreFront}
 use Rattle.x12_spool.specs.Turn.{Does}
 use Rattle.x12_spool.proofs.DeedLemmas.{adds_on, adds_same}
@@ -34,13 +34,13 @@ pub stops_unsure : (x : Deed) (xs : List Deed) (a b : Option (List Deed)) → Ad
 stops_unsure x xs a b (inl same) = ([], (x ∷ xs, refl), same)
 stops_unsure x xs a b (inr did) = (x ∷ [], (xs, refl), did)
 
-hands_new_is : (new : List Posting) (count : ℕ) → (length new == 0) ≡ false → hands_new (map posting_view new) count ≡ drafted_marked_named (map posting_view new) count
+hands_new_is : (new : List Posting) (count : ℕ) → (length new == 0) ≡ false → hands_new (map posting_view new) count ≡ drafted_synced_marked_named (map posting_view new) count
 hands_new_is [] count some = absurd cc
 hands_new_is (p ∷ new) count some = refl
 
 -- it stopped behind what was settled
 pub stops_new : (marked new : List Posting) (count : ℕ) → (length new == 0) ≡ false
-    → (a b c : Option (List Deed)) → AddsDeeds a b (Settles (map posting_view marked) ∷ []) → Does b c (AreFront (drafted_marked_named (map posting_view new) count)) → Does a c (AreFront (hands_over (map posting_view marked) (map posting_view new) count))
+    → (a b c : Option (List Deed)) → AddsDeeds a b (Settles (map posting_view marked) ∷ []) → Does b c (AreFront (drafted_synced_marked_named (map posting_view new) count)) → Does a c (AreFront (hands_over (map posting_view marked) (map posting_view new) count))
 stops_new marked new count some a b c settled did =
     subst (λ l. Does a c (AreFront (Settles (map posting_view marked) ∷ l))) (sym (hands_new_is new count some))
-    (stops_in_second (Settles (map posting_view marked) ∷ []) (drafted_marked_named (map posting_view new) count) a b c settled did)
+    (stops_in_second (Settles (map posting_view marked) ∷ []) (drafted_synced_marked_named (map posting_view new) count) a b c settled did)

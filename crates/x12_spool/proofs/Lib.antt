@@ -2,3 +2,4 @@ mod DeedLemmas
 mod TurnLemmas
 mod OfferLemmas
 mod HandingLemmas
+mod NumberingLemmas

@@ -1,6 +1,6 @@
 -- Interchanges and files that are taken one after the other.
 use Rattle.std.specs.Borrow.{Bor}
-use Rattle.std.proofs.Common.{◌+◌, ◌<◌, ◌≡◌, ◌∙◌, ◌⊎◌, ◌++◌, ◌∷◌, [], List, Option, ap, append-nil, append_assoc, drop, get_or, inl, inr, length, map, refl, subst, sym, take, ℕ}
+use Rattle.std.proofs.Common.{◌+◌, ◌<◌, ◌≡◌, ◌∙◌, ◌⊎◌, ◌||◌, ◌++◌, ◌∷◌, [], Bool, List, Option, ap, append-nil, append_assoc, drop, false, get_or, inl, inr, length, map, refl, subst, sym, take, true, ℕ}
 use Rattle.std.proofs.lemmas.List.{map-append, take_more}
 use Rattle.x12_envelopes.specs.Transmission.{AreSlices}
 use Rattle.x12_envelopes.specs.Writing.{texts}
@@ -12,14 +12,31 @@ use Rattle.x12_spool.specs.Deed.{File, Deed, AddsDeeds, Lists, Reads, PassesOver
 use Rattle.x12_spool.specs.Turn.{Does, word_for_hub, TakesOne, MayTakeOne, TakesAll, TakesSome, TakesRead, StopsRead, IsToRead, TakesFile, StopsIn, TakesFiles, StopsInFiles, TakesListed, StopsInListed}
 use Rattle.x12_spool.proofs.DeedLemmas.{adds_none, adds_on, adds_same, parted}
 
-module _ {N : Type 0} (node : Ghosts N) where
-  all_more : (name : List ℕ) (bs : List Bytes) (b : Bytes) (old mid new : N) (first last : List Deed) → TakesAll node name bs old mid first → TakesOne node name b mid new last → TakesAll node name (bs ++ b ∷ []) old new (first ++ last)
-  all_more name [] b old mid new first last none one =
-      (new, last, [], subst (λ n. TakesOne node name b n new last) none.0 one, (refl, refl), ap (λ ds. ds ++ last) none.1 ∙ sym (append-nil last))
-  all_more name (x ∷ bs) b old mid new first last more one =
-      let rest = all_more name bs b more.0 mid new more.2 last more.4 one in
-      (more.0, more.1, more.2 ++ last, more.3, rest, ap (λ ds. ds ++ last) more.5 ∙ append_assoc more.1 more.2 last)
+or_none : (a : Bool) → a ≡ a || false
+or_none true = refl
+or_none false = refl
 
+or_assoc : (a b c : Bool) → (a || b) || c ≡ a || (b || c)
+or_assoc true b c = refl
+or_assoc false b c = refl
+
+module _ {N : Type 0} (node : Ghosts N) (name : List ℕ) (b : Bytes) (mid new : N) (one : Bool) (last : List Deed) (did : TakesOne node name b mid new one last) where
+  all_more : (bs : List Bytes) (old : N) (any : Bool) (first : List Deed) → TakesAll node name bs old mid any first → TakesAll node name (bs ++ b ∷ []) old new (any || one) (first ++ last)
+  all_more [] old any first none =
+      (new, one, false, last, [], subst (λ n. TakesOne node name b n new one last) none.0 did, (refl, refl, refl), ap (λ a. a || one) none.1 ∙ or_none one, ap (λ ds. ds ++ last) none.2 ∙ sym (append-nil last))
+  all_more (x ∷ bs) old any first more = (
+    more.0,
+    more.1,
+    more.2 || one,
+    more.3,
+    more.4 ++ last,
+    more.5,
+    all_more bs more.0 more.2 more.4 more.6,
+    ap (λ a. a || one) more.7 ∙ or_assoc more.1 more.2 one,
+    ap (λ ds. ds ++ last) more.8 ∙ append_assoc more.3 more.4 last,
+  )
+
+module _ {N : Type 0} (node : Ghosts N) where
   files_more : (fs : List File) (f : File) (old mid new : N) (first last : List Deed) → TakesFiles node fs old mid first → TakesFile node f mid new last → TakesFiles node (fs ++ f ∷ []) old new (first ++ last)
   files_more [] f old mid new first last none one =
       (new, last, [], subst (λ n. TakesFile node f n new last) none.0 one, (refl, refl), ap (λ ds. ds ++ last) none.1 ∙ sym (append-nil last))
@@ -38,18 +55,19 @@ module _ {N : Type 0} (node : Ghosts N) (name : List ℕ) (vs : List Sent) (i : 
   all_are = ap texts (parted vs i d within) ∙ map-append (λ (x : Sent). x.now) (take i vs) (get_or vs i d ∷ drop (i + 1) vs)
 
   -- one interchange more was taken
-  pub takes_on : (a b c : Option (List Deed)) (old mid new : N) → Does a b (TakesAll node name (texts (take i vs)) old mid) → Does b c (TakesOne node name (get_or vs i d).now mid new) → Does a c (TakesAll node name (texts (take (i + 1) vs)) old new)
-  takes_on a b c old mid new before one = (
-    before.0 ++ one.0,
-    subst (λ bs. TakesAll node name bs old new (before.0 ++ one.0)) (sym taken_is) (all_more node name _ (get_or vs i d).now old mid new before.0 one.0 before.1 one.1),
-    adds_on a b c before.0 one.0 before.2 one.2,
+  pub takes_on : (a b c : Option (List Deed)) (old mid new : N) (any one : Bool) → Does a b (TakesAll node name (texts (take i vs)) old mid any) → Does b c (TakesOne node name (get_or vs i d).now mid new one) → Does a c (TakesAll node name (texts (take (i + 1) vs)) old new (any || one))
+  takes_on a b c old mid new any one before did = (
+    before.0 ++ did.0,
+    subst (λ bs. TakesAll node name bs old new (any || one) (before.0 ++ did.0)) (sym taken_is)
+        (all_more node name (get_or vs i d).now mid new one did.0 did.1 (texts (take i vs)) old any before.0 before.1),
+    adds_on a b c before.0 did.0 before.2 did.2,
   )
 
   -- it stopped at one
-  pub stops_at : (a b c : Option (List Deed)) (old mid new : N) → Does a b (TakesAll node name (texts (take i vs)) old mid) → MayTakeOne node (get_or vs i d).now mid new → AddsDeeds b c [] → Does a c (TakesSome node name (texts vs) old new)
-  stops_at a b c old mid new before one undone = (
+  pub stops_at : (a b c : Option (List Deed)) (old mid new : N) (any : Bool) → Does a b (TakesAll node name (texts (take i vs)) old mid any) → MayTakeOne node (get_or vs i d).now mid new → AddsDeeds b c [] → Does a c (TakesSome node name (texts vs) old new)
+  stops_at a b c old mid new any before one undone = (
     before.0,
-    record { taken = texts (take i vs); next = (get_or vs i d).now; rest = texts (drop (i + 1) vs); are = all_are; mid = mid; first = before.1; last = one },
+    record { taken = texts (take i vs); next = (get_or vs i d).now; rest = texts (drop (i + 1) vs); are = all_are; mid = mid; any = any; first = before.1; last = one },
     adds_same a b c before.0 before.2 undone,
   )
 
@@ -57,21 +75,21 @@ module _ {N : Type 0} (node : Ghosts N) (f : File) (bytes : Bytes) (bs : List By
   pub stops_some : (a b : Option (List Deed)) (old new : N) → Does a b (TakesSome node f.name bs old new) → Does a b (StopsRead node f bytes old new)
   stops_some a b old new did = (did.0, inr (inl (record { interchanges = bs; cut = cut; took = inl did.1 })), did.2)
 
-  pub stops_all : (a b c : Option (List Deed)) (old new : N) → Does a b (TakesAll node f.name bs old new) → AddsDeeds b c [] → Does a c (StopsRead node f bytes old new)
-  stops_all a b c old new did same = (did.0, inr (inl (record { interchanges = bs; cut = cut; took = inr did.1 })), adds_same a b c did.0 did.2 same)
+  pub stops_all : (a b c : Option (List Deed)) (old new : N) (any : Bool) → Does a b (TakesAll node f.name bs old new any) → AddsDeeds b c [] → Does a c (StopsRead node f bytes old new)
+  stops_all a b c old new any did same = (did.0, inr (inl (record { interchanges = bs; cut = cut; took = inr (any, did.1) })), adds_same a b c did.0 did.2 same)
 
   -- all of a file was done, with what is told of its item
-  pub takes_whole : (a b c d : Option (List Deed)) (old new : N) → Does a b (TakesAll node f.name bs old new) → AddsDeeds b c (word_for_hub f.word) → AddsDeeds c d (Removes f.name ∷ []) → Does a d (TakesRead node f bytes old new)
-  takes_whole a b c d old new did confirmed removed = (
-    did.0 ++ (word_for_hub f.word ++ Removes f.name ∷ []),
-    record { interchanges = bs; cut = cut; does = did.0; took = did.1; deeds_are = refl },
+  pub takes_whole : (a b c d : Option (List Deed)) (old new : N) (any : Bool) → Does a b (TakesAll node f.name bs old new any) → AddsDeeds b c (word_for_hub f.word any) → AddsDeeds c d (Removes f.name ∷ []) → Does a d (TakesRead node f bytes old new)
+  takes_whole a b c d old new any did confirmed removed = (
+    did.0 ++ (word_for_hub f.word any ++ Removes f.name ∷ []),
+    record { interchanges = bs; cut = cut; any = any; does = did.0; took = did.1; deeds_are = refl },
     adds_on a b d did.0 _ did.2 (adds_on b c d _ _ confirmed removed),
   )
 
-  pub stops_late : (a b c d : Option (List Deed)) (old new : N) → Does a b (TakesAll node f.name bs old new) → AddsDeeds b c (word_for_hub f.word) → AddsDeeds c d [] → Does a d (StopsRead node f bytes old new)
-  stops_late a b c d old new did confirmed same = (
-    did.0 ++ word_for_hub f.word,
-    inr (inr (inl (record { interchanges = bs; cut = cut; does = did.0; took = did.1; deeds_are = refl }))),
+  pub stops_late : (a b c d : Option (List Deed)) (old new : N) (any : Bool) → Does a b (TakesAll node f.name bs old new any) → AddsDeeds b c (word_for_hub f.word any) → AddsDeeds c d [] → Does a d (StopsRead node f bytes old new)
+  stops_late a b c d old new any did confirmed same = (
+    did.0 ++ word_for_hub f.word any,
+    inr (inr (inl (record { interchanges = bs; cut = cut; any = any; does = did.0; took = did.1; deeds_are = refl }))),
     adds_on a b d did.0 _ did.2 (adds_same b c d _ confirmed same),
   )
 

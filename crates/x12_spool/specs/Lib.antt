@@ -1,6 +1,7 @@
 pub mod Node
 pub mod Deed
 pub mod Turn
+pub mod Numbering
 pub mod Offering
 pub mod Memory
 pub mod StationTurn

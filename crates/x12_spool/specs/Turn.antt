@@ -1,5 +1,5 @@
 -- What a turn makes a node do, and what it does in the folders.
-use Rattle.std.specs.Prelude.{◌≡◌, ◌≢◌, ◌⊎◌, ◌++◌, ◌∷◌, [], List, Option, map, ℕ}
+use Rattle.std.specs.Prelude.{◌≡◌, ◌≢◌, ◌⊎◌, ◌||◌, ◌++◌, ◌∷◌, [], Bool, List, Option, false, map, true, ℕ}
 use Rattle.x12_envelopes.specs.Transmission.{AreSlices}
 use Rattle.x12_profile.specs.Interchange.{Bytes}
 use Rattle.x12_spool.specs.declared.node.Node.{Ghosts}
@@ -12,11 +12,12 @@ use Rattle.x12_spool.specs.Deed.{File, Deed, AddsDeeds, Lists, Reads, PassesOver
 abbrev pub Does : Option (List Deed) → Option (List Deed) → (List Deed → Type 0) → Type 0
 Does old new P = (deeds : List Deed) × P deeds × AddsDeeds old new deeds
 
--- the word for the hub, of a file that holds one of its items
-abbrev pub word_for_hub : Word → List Deed
-word_for_hub Plain = []
-word_for_hub (Item item) = Confirms item ∷ []
-word_for_hub (Taken item) = []
+-- the word for the hub, of a file that holds one of its items, where an interchange of the file was taken
+abbrev pub word_for_hub : Word → Bool → List Deed
+word_for_hub Plain any = []
+word_for_hub (Item item) true = Confirms item ∷ []
+word_for_hub (Item item) false = []
+word_for_hub (Taken item) any = []
 
 -- the name of a file says of no item that it was taken: so the file is to be read
 abbrev pub IsToRead : File → Type 0
@@ -36,19 +37,22 @@ module _ {N : Type 0} (node : Ghosts N) where
     pub why : node.refuses old new b reason
     pub deeds_are : deeds ≡ SetsAside name b reason ∷ []
 
-  abbrev pub TakesOne : List ℕ → Bytes → N → N → List Deed → Type 0
-  TakesOne name b old new deeds = TakesInterchange b old new deeds ⊎ IsSetAside name b old new deeds
+  -- an interchange is taken, where this is so, and else set aside
+  abbrev pub TakesOne : List ℕ → Bytes → N → N → Bool → List Deed → Type 0
+  TakesOne name b old new true deeds = TakesInterchange b old new deeds
+  TakesOne name b old new false deeds = IsSetAside name b old new deeds
 
   -- it stopped at an interchange: the node took it, or didn't
   abbrev pub MayTakeOne : Bytes → N → N → Type 0
   MayTakeOne b old new = node.stays old new ⊎ ((sends : List Bytes) × node.takes old new b sends)
 
-  -- interchanges are taken one after the other
-  abbrev pub TakesAll : List ℕ → List Bytes → N → N → List Deed → Type 0
-  TakesAll name [] old new deeds = (new ≡ old) × (deeds ≡ [])
-  TakesAll name (b ∷ bs) old new deeds =
-      (mid : N) × (first : List Deed) × (rest : List Deed) × TakesOne name b old mid first
-      × TakesAll name bs mid new rest × (deeds ≡ first ++ rest)
+  -- interchanges are taken or set aside one after the other; and whether any was taken
+  abbrev pub TakesAll : List ℕ → List Bytes → N → N → Bool → List Deed → Type 0
+  TakesAll name [] old new any deeds = (new ≡ old) × (any ≡ false) × (deeds ≡ [])
+  TakesAll name (b ∷ bs) old new any deeds =
+      (mid : N) × (one : Bool) × (more : Bool) × (first : List Deed) × (rest : List Deed)
+      × TakesOne name b old mid one first × TakesAll name bs mid new more rest
+      × (any ≡ one || more) × (deeds ≡ first ++ rest)
 
   -- it stopped among them: the first ones were taken, and the next one may have been
   pub record TakesSome (name : List ℕ) (all : List Bytes) (old new : N) (deeds : List Deed) : Type 0 where
@@ -57,31 +61,35 @@ module _ {N : Type 0} (node : Ghosts N) where
     pub rest : List Bytes
     pub are : all ≡ taken ++ next ∷ rest
     pub mid : N
-    pub first : TakesAll name taken old mid deeds
+    pub any : Bool
+    pub first : TakesAll name taken old mid any deeds
     pub last : MayTakeOne next mid new
 
-  -- A file that was read: it is cut into interchanges, these are taken in turn, the item that it holds is confirmed, and
-  -- then it is removed.
+  -- A file that was read: it is cut into interchanges, these are taken or set aside in turn, the item that it holds is
+  -- confirmed, where an interchange was taken, and then the file is removed.
   pub record TakesRead (f : File) (bytes : Bytes) (old new : N) (deeds : List Deed) : Type 0 where
     pub interchanges : List Bytes
     pub cut : AreSlices interchanges bytes
+    pub any : Bool
     pub does : List Deed
-    pub took : TakesAll f.name interchanges old new does
-    pub deeds_are : deeds ≡ does ++ (word_for_hub f.word ++ Removes f.name ∷ [])
+    pub took : TakesAll f.name interchanges old new any does
+    pub deeds_are : deeds ≡ does ++ (word_for_hub f.word any ++ Removes f.name ∷ [])
 
   -- it stopped before the file was to be removed: not all of it was taken, or put on
   pub record StopsEarly (f : File) (bytes : Bytes) (old new : N) (deeds : List Deed) : Type 0 where
     pub interchanges : List Bytes
     pub cut : AreSlices interchanges bytes
-    pub took : TakesSome f.name interchanges old new deeds ⊎ TakesAll f.name interchanges old new deeds
+    pub took :
+        TakesSome f.name interchanges old new deeds ⊎ ((any : Bool) × TakesAll f.name interchanges old new any deeds)
 
   -- it stopped at the removal: all was done and put, and the file is still there
   pub record StopsLate (f : File) (bytes : Bytes) (old new : N) (deeds : List Deed) : Type 0 where
     pub interchanges : List Bytes
     pub cut : AreSlices interchanges bytes
+    pub any : Bool
     pub does : List Deed
-    pub took : TakesAll f.name interchanges old new does
-    pub deeds_are : deeds ≡ does ++ word_for_hub f.word
+    pub took : TakesAll f.name interchanges old new any does
+    pub deeds_are : deeds ≡ does ++ word_for_hub f.word any
 
   -- it stopped in a file that was read: before anything, before its removal, or at it
   abbrev pub StopsRead : File → Bytes → N → N → List Deed → Type 0

@@ -16,6 +16,8 @@ pub enum Handed {
     Settled(Vec<Posting>),
     /// A posting was drafted.
     Drafted(Posting),
+    /// The drafts' names are on the disk.
+    Synced,
     /// The mark is kept.
     Marked(u64),
     /// A posting was named.
@@ -70,6 +72,10 @@ impl HandOver for MemoryHandOver {
     fn draft(&mut self, posting: &Posting) -> Result<(), SpoolFault> {
         let drafted = Handed::Drafted(copied(self.alloc, posting)?);
         Ok(note(&mut self.done, drafted)?)
+    }
+
+    fn sync(&mut self) -> Result<(), SpoolFault> {
+        Ok(note(&mut self.done, Handed::Synced)?)
     }
 
     fn mark(&mut self, handed: u64) -> Result<(), SpoolFault> {

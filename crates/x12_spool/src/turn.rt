@@ -1,6 +1,6 @@
 //! One turn: each file that came is taken, and removed once all that it caused was put.
 
-ghost use Rattle.std.specs.Prelude.{[], OnOk, OnErr, map};
+ghost use Rattle.std.specs.Prelude.{[], IfOk, OnOk, OnErr, map};
 ghost use Rattle.x12_envelopes.specs.Writing.{texts};
 ghost use Rattle.x12_spool.specs.Deed.{AddsDeeds, file_view};
 ghost use Rattle.x12_spool.specs.Turn.{Does, TakesOne, MayTakeOne, TakesAll, TakesSome, TakesRead, StopsRead};
@@ -45,57 +45,71 @@ impl From<AllocError> for TurnFault {
     }
 }
 
-/// Takes one interchange of a file, and puts what the node sends where it is taken on.
+/// Takes one interchange of a file, and puts what the node sends where it is taken on; or sets it aside.
+/// It answers whether it was taken.
 fn take_one<N: Node, P: Spool>(
     node: &mut N,
     spool: &mut P,
     name: &[u8],
     bytes: &[u8],
-) -> Result<(), TurnFault>
-    ensures took { OnOk result (Does (P.done spool.old) (P.done spool.new)
-        (TakesOne N.Node name.now bytes.now node.old node.new)) }
+) -> Result<bool, TurnFault>
+    ensures took { IfOk result (λ one. Does (P.done spool.old) (P.done spool.new)
+        (TakesOne N.Node name.now bytes.now node.old node.new one)) }
     ensures stopped { OnErr result (MayTakeOne N.Node bytes.now node.old node.new) }
     ensures undone { OnErr result (AddsDeeds (P.done spool.old) (P.done spool.new) []) }
 {
     match node.take(bytes) {
-        Ok(Answer::Sends(None)) => Ok(()),
-        Ok(Answer::Sends(Some(reply))) => Ok(spool.send(reply.bytes())?),
-        Ok(Answer::Refused(reason)) => Ok(spool.set_aside(name, bytes, reason)?),
+        Ok(Answer::Sends(None)) => Ok(true),
+        Ok(Answer::Sends(Some(reply))) => {
+            spool.send(reply.bytes())?;
+            Ok(true)
+        }
+        Ok(Answer::Refused(reason)) => {
+            spool.set_aside(name, bytes, reason)?;
+            Ok(false)
+        }
         Err(fault) => Err(fault.into()),
     }
 }
 
-/// Takes the interchanges of a file in turn.
+/// Takes the interchanges of a file in turn, and answers whether any was taken.
 fn take_all<N: Node, P: Spool>(
     node: &mut N,
     spool: &mut P,
     name: &[u8],
     interchanges: &[&[u8]],
-) -> Result<(), TurnFault>
-    ensures took { OnOk result (Does (P.done spool.old) (P.done spool.new)
-        (TakesAll N.Node name.now (texts interchanges.now) node.old node.new)) }
+) -> Result<bool, TurnFault>
+    ensures took { IfOk result (λ any. Does (P.done spool.old) (P.done spool.new)
+        (TakesAll N.Node name.now (texts interchanges.now) node.old node.new any)) }
     ensures stopped { OnErr result (Does (P.done spool.old) (P.done spool.new)
         (TakesSome N.Node name.now (texts interchanges.now) node.old node.new)) }
 {
+    let mut any = false;
     for bytes in interchanges {
-        take_one(node, spool, name, bytes)?;
+        any |= take_one(node, spool, name, bytes)?;
     }
-    Ok(())
+    Ok(any)
 }
 
-/// Confirms the item that a file holds, if it holds one.
-fn confirm_taken<P: Spool>(spool: &mut P, word: Word) -> Result<(), TurnFault>
-    ensures sent { OnOk result (AddsDeeds (P.done spool.old) (P.done spool.new) (word_for_hub word)) }
+/// Confirms the item that a file holds, if it holds one and any interchange of it was taken.
+fn confirm_taken<P: Spool>(spool: &mut P, word: Word, any: bool) -> Result<(), TurnFault>
+    ensures sent { OnOk result (AddsDeeds (P.done spool.old) (P.done spool.new) (word_for_hub word any)) }
     ensures unsent { OnErr result (AddsDeeds (P.done spool.old) (P.done spool.new) []) }
 {
     match word {
-        Word::Item(item) => Ok(spool.confirm(item)?),
+        Word::Item(item) => {
+            if any {
+                Ok(spool.confirm(item)?)
+            } else {
+                Ok(())
+            }
+        }
         _ => Ok(()),
     }
 }
 
-/// A file that was read: its interchanges are taken, the item that it holds is confirmed, and then the
-/// file is removed.
+/// A file that was read: its interchanges are taken, the item that it holds is confirmed, where any was
+/// taken, and then the file is removed.
 fn take_read<N: Node, P: Spool>(
     alloc: Global,
     node: &mut N,
@@ -109,8 +123,8 @@ fn take_read<N: Node, P: Spool>(
         (StopsRead N.Node (file_view file.now) bytes.now node.old node.new)) }
 {
     let interchanges = split_transmission(alloc, bytes)?;
-    take_all(node, spool, &file.name, &interchanges)?;
-    confirm_taken(spool, file.word)?;
+    let any = take_all(node, spool, &file.name, &interchanges)?;
+    confirm_taken(spool, file.word, any)?;
     Ok(spool.remove(&file.name)?)
 }
 

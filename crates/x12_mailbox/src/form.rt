@@ -1,0 +1,12 @@
+//! How lines are written.
+
+/// How lines are written.
+#[derive(Clone, Copy, PartialEq, Eq)]
+pub(crate) enum Form {
+    /// In words.
+    Words,
+    /// One JSON object a line.
+    Json,
+    /// CSV, behind a line with the names of the columns.
+    Csv,
+}
