@@ -1,7 +1,7 @@
 //! The commands that `clap` parses, of the rows of a table.
 
 use crate::argument::argument;
-use crate::table::{Program, Row};
+use crate::table::{Group, HasRow, Program, Row};
 use clap::Command;
 use std::alloc::{AllocError, Global};
 
@@ -16,30 +16,32 @@ fn command_of<'a>(alloc: Global, row: &Row) -> Result<Command<'a>, AllocError> {
     Ok(command)
 }
 
-/// A program without its commands, whose help says no more.
-fn plain<'a>(alloc: Global, program: &Program<'_>) -> Command<'a> {
-    Command::new(alloc, program.name)
+/// Adds the commands of a group.
+fn with_group<'a, C: HasRow>(
+    alloc: Global,
+    program: Command<'a>,
+    group: &Group<'_, C>,
+) -> Result<Command<'a>, AllocError> {
+    let mut program = program;
+    for command in group.commands {
+        program = program.subcommand(command_of(alloc, &command.row())?)?;
+    }
+    Ok(program)
+}
+
+/// The command line of a program, and its help.
+pub(crate) fn command_line<'a, C: HasRow>(
+    alloc: Global,
+    program: &Program<'_, C>,
+    help: &'a str,
+) -> Result<Command<'a>, AllocError> {
+    let mut command = Command::new(alloc, program.name)
         .version(program.version)
         .about(program.about)
-        .subcommand_required(true)
-}
-
-/// A program without its commands.
-fn head_of<'a>(alloc: Global, program: &Program<'_>) -> Command<'a> {
-    match program.more {
-        Some(more) => plain(alloc, program).after_help(more),
-        None => plain(alloc, program),
-    }
-}
-
-/// The command line of a program.
-pub(crate) fn command_line<'a>(
-    alloc: Global,
-    program: &Program<'_>,
-) -> Result<Command<'a>, AllocError> {
-    let mut command = head_of(alloc, program);
-    for row in program.rows {
-        command = command.subcommand(command_of(alloc, row)?)?;
+        .override_help(help)
+        .subcommand_required(true);
+    for group in program.groups {
+        command = with_group(alloc, command, group)?;
     }
     Ok(command)
 }

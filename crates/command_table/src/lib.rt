@@ -6,10 +6,12 @@ mod argument;
 mod command;
 mod ending;
 mod fault;
+mod help;
 mod parsing;
 mod table;
 
 pub use ending::Ending;
 pub use fault::Fault;
+pub use help::help_text;
 pub use parsing::{Parsed, parse, process_words};
-pub use table::{Kind, Program, Row, Word};
+pub use table::{Group, HasRow, Kind, Program, Row, Word};

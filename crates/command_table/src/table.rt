@@ -52,17 +52,30 @@ pub struct Row {
     pub words: &'static [Word],
 }
 
+/// What has a row: a command of a program.
+pub trait HasRow: Copy {
+    /// Its row.
+    fn row(self) -> Row;
+}
+
+/// Commands that the help of a program lists together.
+#[derive(Clone, Copy)]
+pub struct Group<'r, C> {
+    /// What stands above them in the help.
+    pub title: &'static str,
+    /// The commands, in the order of the help.
+    pub commands: &'r [C],
+}
+
 /// A program, which wants a command.
 #[derive(Clone, Copy)]
-pub struct Program<'r> {
+pub struct Program<'r, C> {
     /// Its name.
     pub name: &'static str,
     /// Its version.
     pub version: &'static str,
     /// What it does.
     pub about: &'static str,
-    /// What its help says behind its commands, if it says more.
-    pub more: Option<&'static str>,
-    /// Its commands, no two of one name, in the order in which the help lists them.
-    pub rows: &'r [Row],
+    /// Its commands, no two of one name.
+    pub groups: &'r [Group<'r, C>],
 }

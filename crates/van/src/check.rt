@@ -27,7 +27,7 @@ Exit status:
   2  the command line is wrong";
 
 /// The words of the subcommand.
-static WORDS: [Word; 6] = [
+static WORDS: [Word; 7] = [
     Word {
         kind: Kind::Wanted,
         name: "me",
@@ -39,6 +39,12 @@ static WORDS: [Word; 6] = [
         name: "as-sender",
         value: "",
         help: "Says instead what the station --me would refuse to submit",
+    },
+    Word {
+        kind: Kind::Flag,
+        name: "lenient",
+        value: "",
+        help: "Accepts sets whose only errors are in elements, with these noted",
     },
     files::JSON,
     Word {
@@ -131,6 +137,7 @@ pub fn run(rt: &HostRuntime, found: &ArgMatches<'_>) -> Result<ExitCode> {
     };
     let terms = CheckTerms {
         me,
+        lenient: found.get_flag("lenient"),
         pairs: parties::read_pairs(alloc, words)?,
     };
     let files = files_of(alloc, words)?;

@@ -1,14 +1,15 @@
 //! The program `vanlab`: one subcommand a file.
 #![tactic(auto)]
 
-mod answer;
+mod command;
 mod network;
 mod script;
 mod shelf;
 
+use crate::command::{COMMANDS, Command};
 use anyhow::Result;
 use clap::ArgMatches;
-use command_table::{Fault, Parsed, Program, parse, process_words};
+use command_table::{Fault, Group, Parsed, Program, help_text, parse, process_words};
 use std::io;
 use std::process::ExitCode;
 use std::sync::Wait;
@@ -17,42 +18,40 @@ use x12_answering::VERSION;
 
 const ABOUT: &str = "Answers X12 transmissions (version 004010), and runs a network from a script";
 
-/// Runs the subcommand that was found.
-fn run_found<T: Threads + Wait + Sync>(
+/// Runs the command of these words.
+fn run_command<T: Threads + Wait + Sync>(
     rt: &HostRuntime,
     threads: &T,
+    command: Command,
     found: &ArgMatches<'_>,
 ) -> Result<ExitCode> {
-    match found.subcommand() {
-        Some(("answer", found)) => answer::run(rt, found),
-        Some(("network", found)) => network::run(rt, threads, found),
-        Some(("script", _)) => script::run(rt, false),
-        Some(("report", _)) => script::run(rt, true),
-        _ => Ok(ExitCode::from(2)),
+    match command {
+        Command::Answer => Ok(answer_command::run(rt, found)?),
+        Command::Network => network::run(rt, threads, found),
+        Command::Script => script::run(rt, false),
+        Command::Report => script::run(rt, true),
     }
 }
 
-/// Runs the subcommand that these words name.
+/// Runs the command that these words name.
 fn run<T: Threads + Wait + Sync>(
     rt: &HostRuntime,
     threads: &T,
     words: &[String],
 ) -> Result<ExitCode> {
-    let rows = [
-        answer::row(),
-        network::row(),
-        script::script_row(),
-        script::report_row(),
-    ];
+    let groups = [Group {
+        title: "Commands",
+        commands: &COMMANDS,
+    }];
     let vanlab = Program {
         name: "vanlab",
         version: VERSION,
         about: ABOUT,
-        more: None,
-        rows: &rows,
+        groups: &groups,
     };
-    match parse(rt, &vanlab, words)? {
-        Parsed::Found(found) => run_found(rt, threads, &found),
+    let help = help_text(rt.alloc(), &vanlab)?;
+    match parse(rt, &vanlab, help.as_str(), words)? {
+        Parsed::Found(command, found) => run_command(rt, threads, command, &found),
         Parsed::Ended(ending) => Ok(ExitCode::from(ending.status())),
     }
 }

@@ -21,7 +21,9 @@ is the hub, HUB2 a second one. A packet is named by its event and its place, as
   station NAME [HUB2]        a station; these lines stand in front
   enrol PARTY NODE [HUB2]    the hub has a mailbox for the party at a node
   dismiss PARTY [HUB2]       and no longer
-  agree NODE PARTY PAIR..    what a station takes from a party, as PO850
+  agree NODE PARTY PAIR..    what a station takes from a party, as PO850; with
+                             `lenient` before the pairs, sets whose only errors
+                             are in elements are noted
   orders NODE PARTY TEXT..   a station submits orders, one for each text
   prepared NODE BYTES        a station submits the interchange that follows
   outside NODE BYTES         an outsider's interchange comes to a node
@@ -50,10 +52,10 @@ Exit status:
 const REPORT_MORE: &str = "\
 The script stands on standard input; `vanlab script --help` has its lines. A line
 of the report tells of one submitted transaction set: its sender, number, group
-and place, its receiver, how it fares (pending, accepted, rejected), how often it
-stands in its receiver's postings, and a mark.
-  ok   accepted and posted once, rejected and not posted, or pending and posted
-       at most once, and each time byte for byte as it was submitted
+and place, its receiver, how it fares (pending, accepted, noted, rejected), how
+often it stands in its receiver's postings, and a mark.
+  ok   accepted or noted and posted once, rejected and not posted, or pending and
+       posted at most once, and each time byte for byte as it was submitted
   BAD  anything else
   ext  the receiver is no station
 A bad line prints `line 3: bad line` in the report's place.

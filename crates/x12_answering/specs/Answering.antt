@@ -20,10 +20,12 @@ use Rattle.x12_answering.specs.declared.options.Options.{Options}
 use Rattle.x12_answering.specs.Number.{numbers_are_exhausted, numbers_behind}
 use Rattle.x12_answering.specs.Output.{AppendsFront}
 
--- who answers and when, and the pairs of GS01 and ST01 that are taken from every partner
+-- who answers and when; whether sets are accepted whose only errors are in elements, with these
+-- noted; and the pairs of GS01 and ST01 that are taken from every partner
 pub record Terms : Type 0 where
   pub me : Party
   pub at : Moment
+  pub lenient : Bool
   pub pairs : List (List ℕ × List ℕ)
 
 -- what becomes of an interchange: its reply, the line that says why it has none, and the numbers
@@ -33,9 +35,11 @@ pub record Answer : Type 0 where
   pub line : Option (List ℕ)
   pub next : NextNumbers
 
--- the agreement with a partner: these pairs are taken from every one
-abbrev pub agreements_on : List (List ℕ × List ℕ) → Party → List TradingAgreement
-agreements_on pairs partner = record { partner = partner; pairs = pairs } ∷ []
+-- the agreement with a partner: these pairs are taken from every one, and from every one leniently
+-- or from none
+abbrev pub agreements_on : Bool → List (List ℕ × List ℕ) → Party → List TradingAgreement
+agreements_on lenient pairs partner =
+    record { partner = partner; lenient = lenient; pairs = pairs } ∷ []
 
 -- the line on an interchange without a reply: its place in the transmission, from 1, and why
 unfoldable pub line_of : ℕ → List ℕ → List ℕ
@@ -67,7 +71,8 @@ judged_answer t next place h j =
 
 abbrev pub answer_by : Terms → NextNumbers → ℕ → List ℕ → Result Header HeaderFault → Answer
 answer_by t next place bytes (Ok h) =
-    judged_answer t next place h (judgement_of t.me (agreements_on t.pairs h.sender) h bytes)
+    judged_answer t next place h
+    (judgement_of t.me (agreements_on t.lenient t.pairs h.sender) h bytes)
 answer_by t next place bytes (Err fault) = without_reply next place (header_fault_number fault)
 
 -- the answer to the interchange at a place of a transmission
@@ -84,7 +89,7 @@ answers_from t next place (bytes ∷ more) =
 
 -- what the options stand for
 abbrev pub terms_in : Options → Terms
-terms_in o = record { me = o.me; at = o.at; pairs = o.pairs.items }
+terms_in o = record { me = o.me; at = o.at; lenient = o.lenient; pairs = o.pairs.items }
 
 -- the first control numbers
 abbrev pub first_numbers : Options → NextNumbers

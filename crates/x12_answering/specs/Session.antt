@@ -7,7 +7,12 @@ use Rattle.x12_answering.specs.Answering.{Terms, Answer, answer_at, answers_from
 
 -- the terms that a session answers under
 abbrev pub session_terms : Session → Terms
-session_terms d = record { me = d.me; at = d.at; pairs = d.agreement.pairs.items }
+session_terms d = record {
+  me = d.me;
+  at = d.at;
+  lenient = d.agreement.lenient;
+  pairs = d.agreement.pairs.items;
+}
 
 -- nothing that it gathered waits to be written
 pub record NothingWaits (d : Session) : Type 0 where

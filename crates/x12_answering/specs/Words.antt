@@ -69,4 +69,5 @@ pub record AreRead (w : OptionWords) (o : Options) : Type 0 where
   pub gcn : control_number_in w.gcn.now ≡ Some o.gcn
   pub date : o.at.date ≡ w.date.now
   pub time : o.at.time ≡ w.time.now
+  pub lenient : o.lenient ≡ w.lenient
   pub pairs : map pair_in_word (texts w.pairs.now) ≡ map (λ pair. Some pair) o.pairs.items

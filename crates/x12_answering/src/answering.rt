@@ -66,6 +66,7 @@ impl Session {
             at: options.at,
             agreement: Agreement {
                 partner: options.me,
+                lenient: options.lenient,
                 pairs: Vec::from_slice(alloc, options.pairs.as_slice())?,
             },
             numbers: NextNumbers {
@@ -85,8 +86,10 @@ impl Session {
         header: &Header,
     ) -> Result<Judgement<'a>, AllocError>
         requires read { header_of bytes.now ≡ Ok header.now }
-        ensures judged { IfOk result (λ j. judgement_view j ≡ judgement_of self.old.me
-            (agreements_on self.old.agreement.pairs.items header.now.sender) header.now bytes.now) }
+        ensures judged { let agreed = self.old.agreement in IfOk result (λ j.
+            judgement_view j ≡ judgement_of self.old.me
+            (agreements_on agreed.lenient agreed.pairs.items header.now.sender)
+            header.now bytes.now) }
         ensures terms { session_terms self.new ≡ session_terms self.old }
         ensures numbers { self.new.numbers ≡ self.old.numbers }
         ensures replies { self.new.replies ≡ self.old.replies }

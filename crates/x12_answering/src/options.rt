@@ -17,6 +17,8 @@ pub struct Options {
     pub gcn: u32,
     /// When the replies are written.
     pub at: Moment,
+    /// Whether sets are accepted whose only errors are in elements, with these noted.
+    pub lenient: bool,
     /// GS01 and ST01 of what is taken from every partner, as `PO` and `850`.
     pub pairs: Vec<([u8; 2], [u8; 3])>,
     ghost plain: { IsTrue (is_plain_party me) },

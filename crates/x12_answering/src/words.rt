@@ -33,6 +33,8 @@ pub struct OptionWords<'a> {
     pub date: &'a str,
     /// The time, HHMM, as `0931`.
     pub time: &'a str,
+    /// Whether sets are accepted whose only errors are in elements, with these noted.
+    pub lenient: bool,
     /// The pairs, GS01 then ST01, as `PO850`.
     pub pairs: &'a [&'a str],
 }
@@ -210,6 +212,7 @@ pub fn read_options(alloc: Global, words: &OptionWords<'_>) -> Result<Options, O
         icn,
         gcn,
         at,
+        lenient: words.lenient,
         pairs,
     })
 }

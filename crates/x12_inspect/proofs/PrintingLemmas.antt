@@ -3,8 +3,8 @@ use Rattle.std.proofs.Common.{◌≡◌, ℕ, ◌+◌, ◌<◌, ◌≤◌, true,
 use Rattle.std.proofs.lemmas.List.{drop_all, append-nil}
 use Rattle.std.specs.List.{enumerate_from}
 use Rattle.x12_judge.specs.Group.{FunctionalGroupVerdict}
-use Rattle.x12_judge.specs.Set.{TransactionSetVerdict, set_is_accepted}
-use Rattle.x12_inspect.specs.Finding.{CheckFinding, of_set, of_note, refusal_findings, rejection_findings, set_findings, group_findings}
+use Rattle.x12_judge.specs.Set.{TransactionSetVerdict}
+use Rattle.x12_inspect.specs.Finding.{CheckFinding, of_set, of_note, is_without_errors, refusal_findings, error_findings, set_findings, group_findings}
 
 module _ {T F : Type 0} (R : T → List F → T → Type 0) where
   -- with one part more, whatever completes what is left completes the whole
@@ -29,17 +29,17 @@ pub none_left : {X : Type 0} (i : ℕ) (xs ys : List X) → ys ≡ xs → length
 none_left i xs ys same past = rw (← same) (drop_all i ys past)
 
 module _ {T : Type 0} (R : T → List CheckFinding → T → Type 0) (behind : (t u v : T) → (found more : List CheckFinding) → R t found u → R u more v → R t (found ++ more) v) (g : FunctionalGroupVerdict) where
-  -- a set that is accepted, to its end
-  pub accepted_set : (place : ℕ) (v : TransactionSetVerdict) (t u w : T) → set_is_accepted v ≡ true
-      → R t (rejection_findings g place v) u → R u [] w → R t (set_findings g place v) w
+  -- a set without errors, to its end
+  pub set_without_errors : (place : ℕ) (v : TransactionSetVerdict) (t u w : T) → is_without_errors v.result ≡ true
+      → R t (error_findings g place v) u → R u [] w → R t (set_findings g place v) w
   unfolding set_findings
-  accepted_set place v t u w is set end = rw is (behind t u w [] [] (rw is at set) end)
+  set_without_errors place v t u w is set end = rw is (behind t u w [] [] (rw is at set) end)
 
-  -- a set that isn't, with its notes
-  pub rejected_set : (place : ℕ) (v : TransactionSetVerdict) (t u s w : T) → set_is_accepted v ≡ false
-      → R t (rejection_findings g place v) u → R u (map of_note v.notes) s → R s [] w → R t (set_findings g place v) w
+  -- a set with errors, with its notes
+  pub set_with_errors : (place : ℕ) (v : TransactionSetVerdict) (t u s w : T) → is_without_errors v.result ≡ false
+      → R t (error_findings g place v) u → R u (map of_note v.notes) s → R s [] w → R t (set_findings g place v) w
   unfolding set_findings
-  rejected_set place v t u s w is set notes end =
+  set_with_errors place v t u s w is set notes end =
       let told = behind t u w (of_set g place v ∷ []) (map of_note v.notes ++ []) (rw is at set) (behind u s w (map of_note v.notes) [] notes end) in
       rw is (rw (append-nil (map of_note v.notes)) at told)
 

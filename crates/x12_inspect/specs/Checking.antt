@@ -14,7 +14,7 @@ use Rattle.x12_answering.specs.Answering.{agreements_on}
 -- an interchange with this header, or none that can be read, is accepted with all its sets
 abbrev pub is_right_by : CheckTerms → List ℕ → Result Header HeaderFault → Bool
 is_right_by t bytes (Ok h) =
-    is_all_accepted (judgement_of t.me (agreements_on t.pairs.items h.sender) h bytes)
+    is_all_accepted (judgement_of t.me (agreements_on t.lenient t.pairs.items h.sender) h bytes)
 is_right_by t bytes (Err fault) = false
 
 -- an interchange that can be read, and is accepted with all its sets

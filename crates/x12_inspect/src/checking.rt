@@ -26,6 +26,8 @@ use x12_judge::{Agreement, Judgement, Verdict, judge};
 pub struct CheckTerms {
     /// The station that checks: the receiver of the interchanges.
     pub me: Party,
+    /// Whether sets are accepted whose only errors are in elements, with these noted.
+    pub lenient: bool,
     /// GS01 and ST01 of what is taken from every partner, as `PO` and `850`.
     pub pairs: Vec<([u8; 2], [u8; 3])>,
 }
@@ -40,10 +42,12 @@ impl CheckTerms {
     ) -> Result<Judgement<'a>, AllocError>
         requires read { header_of bytes.now ≡ Ok header.now }
         ensures judged { IfOk result (λ j. judgement_view j ≡ judgement_of self.now.me
-            (agreements_on self.now.pairs.items header.now.sender) header.now bytes.now) }
+            (agreements_on self.now.lenient self.now.pairs.items header.now.sender)
+            header.now bytes.now) }
     {
         let agreement = Agreement {
             partner: header.sender,
+            lenient: self.lenient,
             pairs: Vec::from_slice(alloc, self.pairs.as_slice())?,
         };
         judge(alloc, &self.me, slice::from_ref(&agreement), bytes, header)

@@ -4,11 +4,14 @@
 ghost use Rattle.std.specs.Prelude.{◌≡◌, List, [], ◌∷◌, ◌++◌, map, flat_map};
 ghost use Rattle.x12_judge.specs.Verdict.{group_verdict_view, set_verdict_view, note_view};
 ghost use Rattle.x12_inspect.specs.Finding.{CheckFinding, of_note, refusal_findings};
-ghost use Rattle.x12_inspect.specs.Finding.{rejection_findings, set_findings, group_findings};
+ghost use Rattle.x12_inspect.specs.Finding.{is_without_errors, error_findings, set_findings};
+ghost use Rattle.x12_inspect.specs.Finding.{group_findings};
 
 use crate::coded::{Coded, numbered};
 use crate::text::Text;
-use x12_judge::{ElementRule, GroupVerdict, SegmentCode, SetNote, SetVerdict, element_rules};
+use x12_judge::{
+    ElementRule, GroupVerdict, SegmentCode, SetNote, SetResult, SetVerdict, element_rules,
+};
 
 /// A set that was judged, where it stands.
 #[derive(Clone, Copy)]
@@ -17,6 +20,18 @@ pub(crate) struct JudgedSet<'j, 'a> {
     /// Its place in its group, from 1.
     pub place: usize,
     pub set: &'j SetVerdict<'a>,
+}
+
+impl JudgedSet<'_, '_> {
+    /// Whether it is accepted, and no error of it was noted.
+    pub(crate) fn is_without_errors(&self) -> bool
+        ensures { result ≡ is_without_errors self.now.set.now.result }
+    {
+        match self.set.result {
+            SetResult::Accepted => true,
+            SetResult::Noted | SetResult::Rejected => false,
+        }
+    }
 }
 
 /// A note of a set, with the segment that it is of.
@@ -113,10 +128,10 @@ pub(crate) trait Printer {
 
     /// Prints a set of the group before, up to its notes.
     fn set(&self, out: &mut Text, at: &JudgedSet<'_, '_>)
-        ensures { prints self.now out.old (rejection_findings
+        ensures { prints self.now out.old (error_findings
             (group_verdict_view at.now.group.now) at.now.place (set_verdict_view at.now.set.now)) out.new };
 
-    /// Prints a note of the set before, which is rejected.
+    /// Prints a note of the set before, which has errors.
     fn note(&self, out: &mut Text, at: &JudgedSet<'_, '_>, note: &Noted<'_, '_>)
         ensures { prints self.now out.old (of_note (note_view note.now.note.now) ∷ []) out.new };
 
@@ -147,13 +162,13 @@ fn print_notes<P: Printer>(printer: &P, out: &mut Text, at: &JudgedSet<'_, '_>)
     }
 }
 
-/// Prints a set, with its notes where it is rejected.
+/// Prints a set, with its notes where it has errors.
 fn print_set<P: Printer>(printer: &P, out: &mut Text, at: &JudgedSet<'_, '_>)
     ensures { P.prints printer.now out.old (set_findings
         (group_verdict_view at.now.group.now) at.now.place (set_verdict_view at.now.set.now)) out.new }
 {
     printer.set(out, at);
-    if at.set.is_accepted() {
+    if at.is_without_errors() {
         return printer.leave(out);
     }
     print_notes(printer, out, at);

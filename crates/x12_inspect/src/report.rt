@@ -9,7 +9,7 @@ use crate::slice::{Interchange, Slice};
 use crate::style::{Form, Style};
 use crate::text::Text;
 use x12_envelopes::{Header, HeaderFault};
-use x12_judge::GroupVerdict;
+use x12_judge::{GroupVerdict, SetVerdict};
 
 /// What is found of an interchange.
 #[derive(Drop)]
@@ -47,23 +47,37 @@ pub(crate) enum Found<'r, 'a> {
     Sendable(usize),
 }
 
-/// How many sets were received, and how many of them are rejected.
+/// How many sets were received; how many of them are accepted with errors noted, and how many are
+/// rejected.
 #[derive(Clone, Copy)]
 pub(crate) struct Counts {
     pub received: u64,
+    pub noted: u64,
     pub rejected: u64,
 }
 
-/// How many sets of these groups were received, and how many are rejected.
+/// How many of these sets are accepted with errors noted.
+fn count_noted(sets: &[SetVerdict<'_>]) -> u64 {
+    let mut noted = 0u64;
+    for set in sets {
+        noted = noted.saturating_add(u64::from(set.result.is_noted()));
+    }
+    noted
+}
+
+/// How many sets of these groups were received, noted and rejected.
 pub(crate) fn counts_of(groups: &[GroupVerdict<'_>]) -> Counts {
     let mut received = 0u64;
     let mut accepted = 0u64;
+    let mut noted = 0u64;
     for group in groups {
         received = received.saturating_add(u64::from(group.received));
         accepted = accepted.saturating_add(u64::from(group.accepted));
+        noted = noted.saturating_add(count_noted(&group.sets));
     }
     Counts {
         received,
+        noted,
         rejected: received.saturating_sub(accepted),
     }
 }

@@ -1,6 +1,6 @@
 //! What is found of an interchange as CSV (RFC 4180): a line for each finding, in order.
 
-use crate::coded::{Coded, numbered};
+use crate::coded::{Coded, code_of, numbered};
 use crate::fault::{Cause, Fault};
 use crate::piece::{cells, icn, say};
 use crate::printing::{JudgedSet, Noted, Printer, print_groups, refusal};
@@ -40,7 +40,7 @@ fn put_code(out: &mut Text, family: &str, coded: Coded<'_>) {
     out.say(",\n");
 }
 
-/// Adds the codes of a set that is rejected, as a cell.
+/// Adds the codes of a set, as a cell.
 fn put_codes(out: &mut Text, set: &SetVerdict<'_>) {
     let mut between = "";
     for code in set.codes.as_slice() {
@@ -56,6 +56,14 @@ fn put_words(out: &mut Text, set: &SetVerdict<'_>) {
         say!(out; between, numbered("AK502", u32::from(code.number())).words);
         between = "; ";
     }
+}
+
+/// Adds the last cells of a set that is rejected: its codes with their family and words.
+fn put_rejected(out: &mut Text, set: &SetVerdict<'_>) {
+    out.say(",AK502,");
+    put_codes(out, set);
+    put_words(out, set);
+    out.say("\",\n");
 }
 
 /// Adds where a fault is, as what stands between quotes.
@@ -108,15 +116,16 @@ impl Printer for Rows<'_, '_, '_> {
     }
 
     fn set(&self, out: &mut Text, at: &JudgedSet<'_, '_>) {
-        if at.set.is_accepted() {
+        if at.is_without_errors() {
             return;
         }
         put_front(out, self.file, self.report);
         put_set(out, at);
-        out.say(",,,,,,AK502,");
-        put_codes(out, at.set);
-        put_words(out, at.set);
-        out.say("\",\n");
+        out.say(",,,,,");
+        if at.set.is_accepted() {
+            return put_code(out, "AK501", code_of("AK501", b"E"));
+        }
+        put_rejected(out, at.set);
     }
 
     fn note(&self, out: &mut Text, at: &JudgedSet<'_, '_>, note: &Noted<'_, '_>) {

@@ -64,7 +64,7 @@ impl Printer for Tree {
         let set = at.set;
         out.begin_item();
         members!(out; "set": at.place, "type": &set.set, "number": set.number.as_bytes());
-        out.member("accepted", set.is_accepted());
+        members!(out; "accepted": set.is_accepted(), "noted": set.result.is_noted());
         put_codes(out, set);
         out.begin_list("notes");
     }
@@ -95,10 +95,10 @@ impl Printer for Tree {
     ghost behind = { λ printer t u v found more now then_more. tt };
 }
 
-/// Adds how many sets were received, and rejected.
+/// Adds how many sets were received, noted and rejected.
 fn put_counts(out: &mut Text, groups: &[GroupVerdict<'_>]) {
     let counts = counts_of(groups);
-    members!(out; "sets": counts.received, "rejected": counts.rejected);
+    members!(out; "sets": counts.received, "noted": counts.noted, "rejected": counts.rejected);
 }
 
 /// Adds the groups that were judged.

@@ -48,6 +48,13 @@ fn say_whole(out: &mut Text, coded: Coded<'_>, cause: &Cause<'_>) {
     }
 }
 
+/// Adds how many of the accepted sets have errors that were noted, if any have.
+fn say_noted(out: &mut Text, noted: u64) {
+    if noted > 0 {
+        say!(out; ", ", noted, " with errors noted");
+    }
+}
+
 /// Adds how many sets of an interchange are accepted, or rejected where something is wrong.
 fn say_counts(out: &mut Text, groups: &[GroupVerdict<'_>], is_right: bool) {
     let counts = counts_of(groups);
@@ -56,6 +63,7 @@ fn say_counts(out: &mut Text, groups: &[GroupVerdict<'_>], is_right: bool) {
     }
     if is_right {
         say!(out; ": ", Ink::Right, counts.received, " of ", counts.received, " sets accepted");
+        say_noted(out, counts.noted);
     } else {
         say!(out; ": ", Ink::Wrong, counts.rejected, " of ", counts.received, " sets rejected");
     }
@@ -120,12 +128,21 @@ fn say_note(out: &mut Text, note: &Noted<'_, '_>) {
     out.say("\n");
 }
 
-/// Adds the codes of a set that is rejected, one behind another.
+/// Adds the codes of a set, one behind another.
 fn say_codes(out: &mut Text, set: &SetVerdict<'_>) {
     let mut between = "";
     for code in set.codes.as_slice() {
         say!(out; between, numbered("AK502", u32::from(code.number())));
         between = ", ";
+    }
+}
+
+/// How a set with errors fares.
+fn fares(set: &SetVerdict<'_>) -> &'static str {
+    if set.is_accepted() {
+        ": accepted, errors noted: "
+    } else {
+        ": rejected: "
     }
 }
 
@@ -146,11 +163,11 @@ impl Printer for Words {
     }
 
     fn set(&self, out: &mut Text, at: &JudgedSet<'_, '_>) {
-        if at.set.is_accepted() {
+        if at.is_without_errors() {
             return;
         }
         say_group(out, at.group);
-        say!(out; ", set ", at.place, ", ", &at.set.set, " ", at.set.number.as_bytes(), ": rejected: ");
+        say!(out; ", set ", at.place, ", ", &at.set.set, " ", at.set.number.as_bytes(), fares(at.set));
         say_codes(out, at.set);
         out.say("\n");
     }

@@ -128,6 +128,7 @@ pub(crate) fn settle(
 pub(crate) fn agreements(alloc: Global) -> Result<Vec<Agreement>, AllocError> {
     let agreement = Agreement {
         partner: ALPHA,
+        lenient: false,
         pairs: vec![in alloc; (*b"PO", *b"850")]?,
     };
     Ok(vec![in alloc; agreement]?)

@@ -116,6 +116,8 @@ fn a_997_is_matched_by_group_and_receiver(rt: HostRuntime) -> Result<(), Fail> {
 
 const A: Option<Fate> = Some(Fate::Accepted);
 
+const N: Option<Fate> = Some(Fate::Noted);
+
 const R: Option<Fate> = Some(Fate::Rejected);
 
 const P: Option<Fate> = Some(Fate::Pending);
@@ -140,7 +142,7 @@ fn check_listed(rt: &impl Abort, alloc: Global, rows: &[Row]) -> Result<(), Allo
 }
 
 /// 997s that accept the group in part.
-const IN_PART: [Row; 4] = [
+const IN_PART: [Row; 7] = [
     (
         "P tells of the listed sets",
         AnswerCode::PartiallyAccepted,
@@ -148,7 +150,7 @@ const IN_PART: [Row; 4] = [
             (b'1', AnswerCode::ErrorsNoted),
             (b'2', AnswerCode::Rejected),
         ],
-        ([A, R, P], (2, 0, 0, 0, 0)),
+        ([N, R, P], (2, 0, 0, 0, 0)),
     ),
     (
         "P in another order",
@@ -157,13 +159,40 @@ const IN_PART: [Row; 4] = [
             (b'2', AnswerCode::Rejected),
             (b'1', AnswerCode::ErrorsNoted),
         ],
-        ([A, R, P], (2, 0, 0, 0, 0)),
+        ([N, R, P], (2, 0, 0, 0, 0)),
     ),
     (
         "P lists a set twice",
         AnswerCode::PartiallyAccepted,
         &[(b'2', AnswerCode::Rejected), (b'2', AnswerCode::Rejected)],
         ([P, R, P], (1, 1, 0, 0, 0)),
+    ),
+    (
+        "P tells a noted set as accepted too",
+        AnswerCode::PartiallyAccepted,
+        &[
+            (b'1', AnswerCode::ErrorsNoted),
+            (b'1', AnswerCode::Accepted),
+        ],
+        ([N, P, P], (1, 1, 0, 0, 0)),
+    ),
+    (
+        "P tells an accepted set as noted too",
+        AnswerCode::PartiallyAccepted,
+        &[
+            (b'1', AnswerCode::Accepted),
+            (b'1', AnswerCode::ErrorsNoted),
+        ],
+        ([A, P, P], (1, 1, 0, 0, 0)),
+    ),
+    (
+        "P tells a noted set as rejected too",
+        AnswerCode::PartiallyAccepted,
+        &[
+            (b'1', AnswerCode::ErrorsNoted),
+            (b'1', AnswerCode::Rejected),
+        ],
+        ([N, P, P], (1, 0, 0, 1, 0)),
     ),
     (
         "P lists a set that isn't held",
@@ -180,7 +209,7 @@ fn a_997_in_part_tells_of_the_listed_sets(rt: HostRuntime) -> Result<(), Fail> {
 }
 
 /// 997s that tell of the whole group.
-const IN_WHOLE: [Row; 5] = [
+const IN_WHOLE: [Row; 6] = [
     ("A accepts all", AnswerCode::Accepted, &[], ALL_ACCEPTED),
     (
         "A but a listed set",
@@ -193,6 +222,12 @@ const IN_WHOLE: [Row; 5] = [
         AnswerCode::ErrorsNoted,
         &[(b'9', AnswerCode::Accepted), (b'2', AnswerCode::Rejected)],
         ([A, R, A], (3, 0, 1, 0, 0)),
+    ),
+    (
+        "E and a listed set is noted",
+        AnswerCode::ErrorsNoted,
+        &[(b'2', AnswerCode::ErrorsNoted)],
+        ([A, N, A], (3, 0, 0, 0, 0)),
     ),
     (
         "R whatever is listed",

@@ -10,6 +10,7 @@ use x12_judge::Agreement;
 pub fn orders_from(alloc: Global, partner: Party) -> Result<Agreement, AllocError> {
     Ok(Agreement {
         partner,
+        lenient: false,
         pairs: vec![in alloc; (*b"PO", *b"850")]?,
     })
 }

@@ -25,10 +25,11 @@ pub(crate) enum ActionLine<'a> {
         party: Name,
         hub: Name,
     },
-    /// A station agrees on these pairs with a partner.
+    /// A station agrees on these pairs with a partner, leniently or not.
     Agree {
         node: Name,
         partner: Name,
+        lenient: bool,
         pairs: Option<&'a [u8]>,
     },
     /// A station submits orders with these texts.
@@ -88,14 +89,16 @@ fn dismiss<'a>(rest: Option<&'a [u8]>) -> Result<ActionLine<'a>, LineFault<'a>> 
     words.end_with(ActionLine::Dismiss { party, hub })
 }
 
-/// `agree NODE PARTY PAIR..`
+/// `agree NODE PARTY [lenient] PAIR..`
 fn agree<'a>(rest: Option<&'a [u8]>) -> Result<ActionLine<'a>, LineFault<'a>> {
-    let mut words = Words::new(rest, "agree NODE PARTY PAIR..");
+    let mut words = Words::new(rest, "agree NODE PARTY [lenient] PAIR..");
     let (node, partner) = (words.name(), words.name());
+    let lenient = words.takes(b"lenient");
     let pairs = words.left();
     words.end_with(ActionLine::Agree {
         node,
         partner,
+        lenient,
         pairs,
     })
 }
@@ -216,9 +219,18 @@ impl Setting {
                 Ok(Action::Enrol { party, node })
             }
             ActionLine::Dismiss { party, .. } => Ok(Action::Dismiss { party: party.party }),
-            ActionLine::Agree { partner, pairs, .. } => {
+            ActionLine::Agree {
+                partner,
+                lenient,
+                pairs,
+                ..
+            } => {
                 let (partner, pairs) = (partner.party, self.pairs(pairs)?);
-                let agreement = Agreement { partner, pairs };
+                let agreement = Agreement {
+                    partner,
+                    lenient,
+                    pairs,
+                };
                 Ok(Action::Agree { agreement })
             }
             ActionLine::Orders { to, texts, .. } => {

@@ -120,6 +120,7 @@ pub(crate) fn push_fate(text: &mut Vec<u8>, fate: Option<Fate>) -> Result<(), Al
     text.extend_from_slice(match fate {
         Some(Fate::Pending) => b"pending\n",
         Some(Fate::Accepted) => b"accepted\n",
+        Some(Fate::Noted) => b"noted\n",
         Some(Fate::Rejected) => b"rejected\n",
         None => b"unknown\n",
     })

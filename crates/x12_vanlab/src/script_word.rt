@@ -167,6 +167,19 @@ impl<'a> Words<'a> {
         self.rest.take()
     }
 
+    /// Whether the next word is this one, which then is taken.
+    pub(crate) fn takes(&mut self, wanted: &[u8]) -> bool {
+        let Some(bytes) = self.rest else {
+            return false;
+        };
+        let (word, rest) = cut_word(bytes);
+        if word != wanted {
+            return false;
+        }
+        self.rest = rest;
+        true
+    }
+
     /// Whether the last word is that of the second hub, which then is taken.
     pub(crate) fn takes_second_hub(&mut self) -> bool {
         match self.rest {

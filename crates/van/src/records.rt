@@ -3,11 +3,13 @@
 ghost use Rattle.std.specs.Prelude.{IsTrue};
 ghost use Rattle.x12_envelopes.specs.Party.{is_plain_party};
 
+use clap::ArgMatches;
 use sqlite::{Alter, Connection, Error, ErrorCode, Wary};
 use std::alloc::{AllocError, Global};
+use std::process::ExitCode;
 use x12_envelopes::Party;
 use x12_hub::Hub;
-use x12_mailbox::{Asked, OpensRecords, Stop, run_command};
+use x12_mailbox::{Command, OpensRecords, Stop, status_of};
 use x12_records::{
     FilesFrom, OpenFault, RecordsFault, SqliteHubRecords, SqliteRecords, open_hub,
     open_station_file,
@@ -162,13 +164,16 @@ impl<D: Databases> OpensRecords for InDatabases<'_, D> {
 fn run_over<D: Databases>(
     rt: &HostRuntime,
     databases: &D,
-    name: &str,
-    asked: &Asked<'_>,
+    command: Command,
+    found: &ArgMatches<'_>,
 ) -> Result<u8, Stop> {
-    run_command(rt, &InDatabases { databases }, name, asked)
+    command.run(rt, &InDatabases { databases }, found)
 }
 
-/// Runs a command over records in database files.
-pub(crate) fn run_in_files(rt: &HostRuntime, name: &str, asked: &Asked<'_>) -> Result<u8, Stop> {
-    run_over(rt, &Files, name, asked)
+/// Runs a command of mailboxes over records in database files, and gives its exit status.
+pub fn run(rt: &HostRuntime, command: Command, found: &ArgMatches<'_>) -> ExitCode {
+    match run_over(rt, &Files, command, found) {
+        Ok(status) => ExitCode::from(status),
+        Err(stop) => ExitCode::from(status_of(rt, stop)),
+    }
 }

@@ -1,11 +1,12 @@
-//! `vanlab answer`: reads a transmission from standard input and writes the reply to each of its
-//! interchanges.
+//! The command `answer`, which `van` and `vanlab` both have: reads a transmission from standard input and
+//! writes the reply to each of its interchanges.
+#![tactic(auto)]
 
-use anyhow::Result;
 use clap::ArgMatches;
-use command_table::{Kind, Row, Word};
+use command_table::{Fault, Kind, Row, Word};
+use std::fmt::Display;
 use std::process::ExitCode;
-use x12_answering::{OptionFault, OptionWords, RunStatus, read_options, run_answer};
+use x12_answering::{OptionFault, OptionWords, Options, RunStatus, read_options, run_answer};
 
 const ABOUT: &str =
     "Reads a transmission from standard input and writes the reply to each of its interchanges.";
@@ -22,15 +23,15 @@ and why, as `interchange 2: H3`; one that is due no reply leaves none.
   N1  no control number is left for its reply
 
 Example:
-  vanlab answer --me ZZBETA --icn 1 --gcn 1 --date 20250102 --time 0931 PO850 < orders.edi
+  van answer --me ZZBETA --icn 1 --gcn 1 --date 20250102 --time 0931 PO850 < orders.edi
 
 Exit status:
   0  done
   1  an interchange couldn't be answered, or the run stopped
   2  the command line is wrong";
 
-/// The words of the subcommand.
-static WORDS: [Word; 6] = [
+/// The words of the command.
+static WORDS: [Word; 7] = [
     Word {
         kind: Kind::Wanted,
         name: "me",
@@ -62,6 +63,12 @@ static WORDS: [Word; 6] = [
         help: "The time of day of the replies",
     },
     Word {
+        kind: Kind::Flag,
+        name: "lenient",
+        value: "",
+        help: "Accepts sets whose only errors are in elements, with these noted",
+    },
+    Word {
         kind: Kind::Many,
         name: "pairs",
         value: "PAIR",
@@ -69,8 +76,8 @@ static WORDS: [Word; 6] = [
     },
 ];
 
-/// The subcommand's part of the command line.
-pub(crate) fn row() -> Row {
+/// The command's part of the command line.
+pub fn row() -> Row {
     Row {
         name: "answer",
         about: ABOUT,
@@ -79,36 +86,42 @@ pub(crate) fn row() -> Row {
     }
 }
 
-/// Runs the subcommand, and gives its exit status.
-pub fn run(rt: &HostRuntime, found: &ArgMatches<'_>) -> Result<ExitCode> {
+/// Says on standard error what was wrong, and gives the exit status.
+fn refuse<E: Display>(rt: &HostRuntime, fault: &E, status: u8) -> Result<ExitCode, Fault> {
+    eprintln!(rt; "error: {fault}")?;
+    Ok(ExitCode::from(status))
+}
+
+/// Answers what stands on standard input.
+fn answer(rt: &HostRuntime, options: &Options) -> Result<ExitCode, Fault> {
+    let ended = run_answer(
+        rt.alloc(),
+        options,
+        &mut rt.stdin(),
+        &mut rt.stdout(),
+        &mut rt.stderr(),
+    );
+    match ended {
+        Ok(RunStatus::Answered) => Ok(ExitCode::SUCCESS),
+        Ok(RunStatus::Incomplete) => Ok(ExitCode::from(1)),
+        Err(fault) => refuse(rt, &fault, 1),
+    }
+}
+
+/// Runs the command, and gives its exit status. It is a fault where standard error takes no sentence.
+pub fn run(rt: &HostRuntime, found: &ArgMatches<'_>) -> Result<ExitCode, Fault> {
     let words = OptionWords {
         me: found.get_str("me").unwrap_or(""),
         icn: found.get_str("icn").unwrap_or(""),
         gcn: found.get_str("gcn").unwrap_or(""),
         date: found.get_str("date").unwrap_or(""),
         time: found.get_str("time").unwrap_or(""),
+        lenient: found.get_flag("lenient"),
         pairs: found.get_strs("pairs").unwrap_or(&[]),
     };
-    let options = match read_options(rt.alloc(), &words) {
-        Ok(options) => options,
-        Err(fault) => {
-            eprintln!(rt; "error: {fault}")?;
-            let status = if fault == OptionFault::Memory { 1 } else { 2 };
-            return Ok(ExitCode::from(status));
-        }
-    };
-    match run_answer(
-        rt.alloc(),
-        &options,
-        &mut rt.stdin(),
-        &mut rt.stdout(),
-        &mut rt.stderr(),
-    ) {
-        Ok(RunStatus::Answered) => Ok(ExitCode::SUCCESS),
-        Ok(RunStatus::Incomplete) => Ok(ExitCode::from(1)),
-        Err(fault) => {
-            eprintln!(rt; "error: {fault}")?;
-            Ok(ExitCode::from(1))
-        }
+    match read_options(rt.alloc(), &words) {
+        Ok(options) => answer(rt, &options),
+        Err(OptionFault::Memory) => refuse(rt, &OptionFault::Memory, 1),
+        Err(fault) => refuse(rt, &fault, 2),
     }
 }
