@@ -29,7 +29,7 @@ from crates import Crate, crates_of, text_of
 from tests import modules_in, write_crate
 from unproved import Unbuilt, build_program
 
-BELOW = ["x12_records", "x12_station", "x12_hub", "x12_judge", "x12_envelopes"]
+BELOW = ["x12_records", "x12_station", "x12_hub", "x12_outbound", "x12_acks", "x12_judge", "x12_envelopes"]
 OF_KIT = ["sqlite", "sqlite_store", "sqlite_std_file", "anyhow"]
 
 # --- Interchanges ----------------------------------------------------------------------------------------------------
@@ -57,8 +57,8 @@ def iea(groups, icn):
     return f"IEA*{groups}*{icn:09}~"
 
 
-def order(number, segments=4):
-    return f"ST*850*{number}~BEG*00*SA*PO-1**20250102~PO1*1*10*EA*5~SE*{segments}*{number}~"
+def order(number, segments=4, name="PO-1"):
+    return f"ST*850*{number}~BEG*00*SA*{name}**20250102~PO1*1*10*EA*5~SE*{segments}*{number}~"
 
 
 def orders(sender, receiver, icn, gcn, *sets, ack=0):
@@ -127,14 +127,23 @@ TO_GAMMA = orders("ZZALPHA", "ZZGAMMA", 6, 9, order("0001"))
 ANSWER = answer(DUNS, "ZZALPHA", 21, 21, "AK1*PO*7~AK2*850*0001~AK5*A~AK2*850*0002~AK5*R*5~AK9*P*2*2*1~")
 ONE_WRONG = orders(DUNS, "ZZALPHA", 22, 31, order("0001"), order("0002", 5))
 REPLY = answer("ZZALPHA", DUNS, 7, 10, "AK1*PO*31~AK2*850*0001~AK5*A~AK2*850*0002~AK5*R*4~AK9*P*2*2*1~")
-FROM_GAMMA = orders("ZZGAMMA", "ZZALPHA", 1, 1, order("0001"), ack=1)
-GAMMA_REPLY = answer("ZZALPHA", "ZZGAMMA", 8, 11, "AK1*PO*1~AK2*850*0001~AK5*A~AK9*A*1*1*1~",
+# The second set of ALPHA's second group was accepted with errors noted.
+NOTED = answer(DUNS, "ZZALPHA", 23, 22, "AK1*PO*8~AK2*850*0001~AK5*E*5~AK9*E*1*1*1~")
+# GAMMA's number of a purchase order (BEG03, element 324) has 23 characters, one more than it may have.
+LONG = "PO-12345678901234567890"
+FROM_GAMMA = orders("ZZGAMMA", "ZZALPHA", 1, 1, order("0001", name=LONG), ack=1)
+TOLD_OF_LONG = f"AK2*850*0001~AK3*BEG*2**8~AK4*3*324*5*{LONG}~"
+GAMMA_REPLY = answer("ZZALPHA", "ZZGAMMA", 8, 11, f"AK1*PO*1~{TOLD_OF_LONG}AK5*E*5~AK9*E*1*1*1~",
                      ta1="TA1*000000001*250102*0930*A*000~")
+FROM_DUNS = orders(DUNS, "ZZALPHA", 24, 32, order("0001", name=LONG))
+STRICT_REPLY = answer("ZZALPHA", DUNS, 9, 12, f"AK1*PO*32~{TOLD_OF_LONG}AK5*R*5~AK9*R*1*1*0~")
+GAMMA_AGAIN = orders("ZZGAMMA", "ZZALPHA", 2, 2, order("0001", name=LONG))
+AGAIN_REPLY = answer("ZZALPHA", "ZZGAMMA", 10, 13, f"AK1*PO*2~{TOLD_OF_LONG}AK5*E*5~AK9*E*1*1*1~")
 
 NEW_STATION = [
     ("", "opened\nopen, new true"),
     (f"agree {DUNS} PO850", "agreed"),
-    ("agree ZZGAMMA PO850 IN810", "agreed"),
+    ("agree ZZGAMMA lenient PO850 IN810", "agreed"),
     (f"agree {DUNS} PO850 PR855", "agreed"),
     (f"submit {TWO_GROUPS}", "sent 5"),
     (f"submit {TO_GAMMA}", "sent 6"),
@@ -142,31 +151,40 @@ NEW_STATION = [
     (f"arrive {ONE_WRONG}", f"new, settled 0, {REPLY}"),
     (f"arrive {ONE_WRONG}", f"same, settled 0, {REPLY}"),
     (f"arrive {FROM_GAMMA}", f"new, settled 0, {GAMMA_REPLY}"),
+    (f"arrive {NOTED}", "new, settled 1, no reply"),
     ("", "failures 0"),
 ]
 STATION_ROWS = {
-    "numbers": [(1, 1, stored("ZZALPHA"), stored("ZZHUB"), None, 8, 11, 5, 0, 0, 0)],
-    "agreement": [(2, stored("ZZGAMMA"), b"PO", 0, b"850"), (3, stored("ZZGAMMA"), b"IN", 0, b"810"),
+    "numbers": [(1, 2, stored("ZZALPHA"), stored("ZZHUB"), None, 8, 11, 6, 0, 0, 0)],
+    "agreement": [(2, stored("ZZGAMMA"), b"PO", 1, b"850"), (3, stored("ZZGAMMA"), b"IN", 1, b"810"),
                   (4, stored(DUNS), b"PO", 0, b"850"), (5, stored(DUNS), b"PR", 0, b"855")],
     "outbound": [(5, 1, stored(DUNS), TWO_GROUPS.encode()), (6, 2, stored("ZZGAMMA"), TO_GAMMA.encode())],
     "outset": [(1, 5, 1, 1, 7, b"PO", b"0001", 1), (2, 5, 1, 2, 7, b"PO", b"0002", 2),
-               (3, 5, 2, 1, 8, b"PO", b"0001", 0), (4, 6, 1, 1, 9, b"PO", b"0001", 0)],
+               (3, 5, 2, 1, 8, b"PO", b"0001", 3), (4, 6, 1, 1, 9, b"PO", b"0001", 0)],
     "inbound": [(3, stored(DUNS), 21, None, ANSWER.encode()), (4, stored(DUNS), 22, REPLY.encode(), ONE_WRONG.encode()),
-                (5, stored("ZZGAMMA"), 1, GAMMA_REPLY.encode(), FROM_GAMMA.encode())],
+                (5, stored("ZZGAMMA"), 1, GAMMA_REPLY.encode(), FROM_GAMMA.encode()),
+                (6, stored(DUNS), 23, None, NOTED.encode())],
     "posting": [(1, stored(DUNS), 22, 1, 1, b"PO", b"850", b"0001", order("0001").encode()),
-                (2, stored("ZZGAMMA"), 1, 1, 1, b"PO", b"850", b"0001", order("0001").encode())],
+                (2, stored("ZZGAMMA"), 1, 1, 1, b"PO", b"850", b"0001", order("0001", name=LONG).encode())],
 }
+# What was kept is found again: who is taken leniently, who isn't, and that no fate is told anew.
 OLD_STATION = [
     ("", "opened\nopen, new false"),
     (f"arrive {FROM_GAMMA}", f"same, settled 0, {GAMMA_REPLY}"),
+    (f"arrive {FROM_DUNS}", f"new, settled 0, {STRICT_REPLY}"),
+    (f"arrive {GAMMA_AGAIN}", f"new, settled 0, {AGAIN_REPLY}"),
+    ("fate 5 1 1", "accepted"),
+    ("fate 5 1 2", "rejected"),
+    ("fate 5 2 1", "noted"),
+    ("fate 6 1 1", "pending"),
     ("", "failures 0"),
 ]
 STATION_ANSWERS = [
-    [f"{'ZZALPHA':<17}|{'ZZHUB':<17}|1"],
-    [f"1|{DUNS:<17}|5|2|1|PO|8|0001", f"2|{'ZZGAMMA':<17}|6|1|1|PO|9|0001"],
-    ["pending|2", "accepted|1", "rejected|1"],
+    [f"{'ZZALPHA':<17}|{'ZZHUB':<17}|2"],
+    [f"2|{'ZZGAMMA':<17}|6|1|1|PO|9|0001"],
+    ["pending|1", "accepted|1", "rejected|1", "noted|1"],
     [f"{DUNS:<17}|5|1|2|0002"],
-    [f"3|21|{len(ANSWER)}|none", f"4|22|{len(ONE_WRONG)}|kept"],
+    [f"3|21|{len(ANSWER)}|none", f"4|22|{len(ONE_WRONG)}|kept", f"6|23|{len(NOTED)}|none"],
     [f"{DUNS:<17}|22|1|1|850|0001", f"{'ZZGAMMA':<17}|1|1|1|850|0001"],
 ]
 
@@ -185,16 +203,32 @@ CHANGED_HUB = {
     "UPDATE directory SET party = x'5A5A'": "a party of two bytes",
 }
 CHANGED_STATION = {
-    "UPDATE numbers SET seq = 4": "an arrival isn't counted",
-    "UPDATE numbers SET seq = 6": "more is counted than came and was submitted",
+    "UPDATE numbers SET seq = 5": "an arrival isn't counted",
+    "UPDATE numbers SET seq = 7": "more is counted than came and was submitted",
     "UPDATE numbers SET noted = 1": "a column that is nought in this version isn't",
     "UPDATE numbers SET era = 1": "likewise",
-    "UPDATE agreement SET lenient = 1 WHERE at = 2": "likewise",
-    "UPDATE outset SET fate = 3 WHERE at = 1": "a fate that is none",
+    "UPDATE agreement SET lenient = 2 WHERE at = 2": "an agreement is neither strict nor lenient",
+    "UPDATE agreement SET lenient = 0 WHERE at = 2": "one partner's agreement is strict and lenient",
+    "UPDATE outset SET fate = 4 WHERE at = 1": "a fate that is none",
     "DELETE FROM outset WHERE icn = 6": "a submission without a set",
     "UPDATE posting SET setid = x'3835' WHERE at = 1": "a transaction set's identifier of two bytes",
 }
 OUT_OF_FORM = "the database failed, or holds a row out of form"
+# What is done to a file, and why the version of its tables is then what is refused: first as version 1 would have left it.
+OLDER = "UPDATE numbers SET version = 1"
+OF_VERSION_1 = {
+    "UPDATE agreement SET lenient = 0; UPDATE outset SET fate = 1 WHERE fate = 3": "as they are",
+    "DELETE FROM outset WHERE icn = 6; UPDATE numbers SET seq = 900": "with rows that are out of form",
+    "UPDATE numbers SET party = x'5A5A'": "with a party of two bytes",
+}
+IS_OLDER = "the records are of version 1: take the release that made them"
+OTHER_VERSIONS = ("UPDATE numbers SET version = 0", "UPDATE numbers SET version = 3", "DELETE FROM numbers")
+NOT_OURS = "the database has other tables than these records"
+# What is done to a file, and what may then be in force: records that a station may have left.
+ALLOWED_STATION = {
+    "UPDATE agreement SET lenient = 1": "every agreement lenient",
+    "UPDATE outset SET fate = 3 WHERE fate = 1": "an accepted set noted",
+}
 
 # --- The page --------------------------------------------------------------------------------------------------------
 
@@ -366,16 +400,35 @@ def copies_of_sqlite(path):
     return vacuumed, backup
 
 
-def refuses(kind, path, sql):
-    """Whether records are refused, once SQLite has done this to a copy of their file."""
+def changed_by(path, sql, to):
+    """A copy of a database to which SQLite has done this, each statement to one row at least."""
+    changed = copy(path, to)
+    conn = sqlite3.connect(changed)
+    counts = [conn.execute(it).rowcount for it in sql.split(";")]
+    conn.commit()
+    conn.close()
+    return changed if min(counts) > 0 else None
+
+
+def refuses(kind, path, sql, why=OUT_OF_FORM, age="old"):
+    """Whether records are refused for this reason, once SQLite has done this to a copy of their file, and the file is
+    left byte for byte as it was."""
     with tempfile.TemporaryDirectory(prefix="changed-") as room:
-        changed = copy(path, f"{room}/changed.db")
-        conn = sqlite3.connect(changed)
-        count = conn.execute(sql).rowcount
-        conn.commit()
-        conn.close()
-        ran = subprocess.run(**command(kind, "old", changed), input="", capture_output=True, timeout=600)
-        return count == 1 and ran.returncode == FAILED and OUT_OF_FORM in ran.stderr
+        changed = changed_by(path, sql, f"{room}/changed.db")
+        if not changed:
+            return False
+        with open(changed, "rb") as file:
+            before = file.read()
+        ran = subprocess.run(**command(kind, age, changed), input="", capture_output=True, timeout=600)
+        with open(changed, "rb") as file:
+            return file.read() == before and ran.returncode == FAILED and why in ran.stderr
+
+
+def takes(path, sql):
+    """Whether a station's records are taken over, once SQLite has done this to a copy of their file."""
+    with tempfile.TemporaryDirectory(prefix="changed-") as room:
+        changed = changed_by(path, sql, f"{room}/changed.db")
+        return bool(changed) and tells("station", "old", changed, [("", "opened\nopen, new false"), ("", "failures 0")])
 
 
 def survives_kills(path):
@@ -427,6 +480,14 @@ def shown(room, page):
     yield "a station isn't opened over another's file", run(["station", "other", station], [])[1] == FAILED
     for sql, what in CHANGED_STATION.items():
         yield f"a station doesn't take over records in which {what}: {sql}", refuses("station", station, sql)
+    for sql, what in OF_VERSION_1.items():
+        for age in ("old", "other"):
+            yield (f"records of version 1, {what}, are refused as such, asked for as {age}",
+                   refuses("station", station, f"{OLDER};{sql}", IS_OLDER, age))
+    for sql in OTHER_VERSIONS:
+        yield f"tables of no version up to this one aren't a station's: {sql}", refuses("station", station, sql, NOT_OURS)
+    for sql, what in ALLOWED_STATION.items():
+        yield f"a station takes over records with {what}: {sql}", takes(station, sql)
     yield "a station goes on over its file", tells("station", "old", station, OLD_STATION)
 
 

@@ -3,12 +3,11 @@
 
 Of each page: a link leads to a file or a heading; a path in backticks is one of the repository; a name in backticks
 stands somewhere in the sources, as a word or as a file; a clause that is cited, as `call`: `clause`, is one of that
-call; text has at most 130 columns, a row of a table 300. The first page has at most 100 lines, and no sentence of more
-than 35 words. docs/promises.md names edits that are there. docs/model.md names each definition that a public contract
-cites, in the file that has it. In docs/map.md each call stands in the crate in front of it, and is made from the call
-beside it. docs/refusals.md has the tables that refusals.py makes of the sources. The pictures of samples/ are what
-chart.py draws, and both programs say the version of CHANGELOG.md. The last line is 'N passed, M failed', which counts
-what was looked at.
+call; an edit that a README names as refused is there; text has at most 130 columns, a row of a table 300. The first
+page has at most 90 lines. All pages together have at most 20 sentences of more than 30 words, names in backticks counted
+as one. In docs/map.md each call stands in the crate beside it, and the call in the next column makes it. The pictures of
+samples/ are what chart.py draws, and the programs say the version of CHANGELOG.md. The last line is 'N passed, M
+failed', which counts what was looked at.
 """
 import os
 import re
@@ -20,12 +19,11 @@ TOP = os.path.dirname(HERE)
 sys.path[:0] = [HERE, f"{HERE}/tools"]
 from chart import drawn_of
 from contracts import Sources
-from refusals import tables
 
 TEXT_WIDTH, ROW_WIDTH = 130, 300
-FIRST_LINES, SENTENCE_WORDS = 100, 35
+FIRST_LINES, SENTENCE_WORDS, LONG_SENTENCES = 90, 30, 20
 # Pages whose names are of another time, or of no file: what has changed, forms of proofs, what was measured.
-NO_NAMES = ("CHANGELOG.md", "docs/proof-notes.md", "bench/README.md", "bench/steps.md")
+NO_NAMES = ("CHANGELOG.md", "docs/proof-notes.md", "bench/README.md")
 # Names that stand in no source, each with its reason.
 ALLOWED = f"{HERE}/documents.txt"
 FENCE = re.compile(r"^```[\s\S]*?^```$|^\n(?: {4}[^\n]*\n)+", re.M)
@@ -33,6 +31,7 @@ LINK = re.compile(r"\[[^\]]*\]\(([^)\s]+)\)")
 SPAN = re.compile(r"`([^`]+)`")
 PATH = re.compile(r"[.a-z][\w.-]*(?:/[\w.-]+)+|[\w-]+\.(?:antt|rt|py|sh|md|edi|script|expected|edit|rattle|txt|misuse|svg)")
 NAME = re.compile(r"(?:[A-Za-z_]\w*)(?:(?:::|\.)[A-Za-z_]\w*)*")
+REFUSED = re.compile(r"\*Refused:\*(.*)")
 CITED = re.compile(r"((?:`[\w:]+`(?:, | and )?)+): ((?:`\w+`(?:, | and )?)+)")
 
 
@@ -111,6 +110,14 @@ class Page:
                     lost = [it for it in re.split(r"::|\.", span) if it not in words]
                     self.want(not lost, number, f"no {', '.join(lost)} in the sources")
 
+    def edits(self):
+        """That each edit which is named as refused is there."""
+        there = {os.path.basename(it)[:-5] for it in self.files if it.endswith(".edit")}
+        for number, text in paragraphs(self.text):
+            for names in REFUSED.findall(text):
+                for name in re.findall(r"`(\w+_\w+)`", re.sub(r"\([^)]*\)|(?:of|in) `?x12_\w+`?|x12_\w+", "", names)):
+                    self.want(name in there, number, f"no edit {name}")
+
     def is_path(self, path):
         """Whether a path names a file or a folder, from the top, from the page, or by its end; NAME stands for any."""
         path = re.sub(r"^(?:\.\.?/)+", "", path).strip("/")
@@ -128,55 +135,19 @@ class Page:
                     self.want(clause in there, number, f"no clause {clause} of {', '.join(sorted({it.name for call in calls for it in call}))}")
 
 
-def examples(page):
-    """That what the first page shows of `vanlab` is what is stored: of a reply by its segments, of a report by its lines."""
-    for command, shown in re.findall(r"^    \./vanlab (.*)\n((?:    .*\n)*)", page.text, re.M):
-        stored = []
-        if command.startswith("answer") and "grep" in command:
-            wanted = re.search(r"grep '?([^ ']+)", command)[1]
-            stored = [it for it in read("crates/vanlab/stdout").split("~") if re.search(wanted, it)]
-        elif command.startswith("report < "):
-            lines = read(command.split(" ")[-1].replace(".script", ".expected")).split("\n")
-            stored = [it for it in lines if re.match(r"\w\w/", it)]
-        page.want([it[4:] for it in shown.split("\n") if it] == stored, 1, f"vanlab {command} doesn't print what is shown")
-
-
-def guards(page, _):
-    """That each edit which a promise names is there."""
-    edits = {os.path.basename(it)[:-5] for it in page.files if it.endswith(".edit")}
-    for number, text in paragraphs(page.text):
-        if text.startswith("- guarded by: "):
-            for name in re.findall(r"`(\w+_\w+)`", re.sub(r"\([^)]*\)", "", text)):
-                page.want(name in edits, number, f"no edit {name}")
-
-
 def first_page(page, _):
-    """How long it is, its examples, and its sentences."""
-    examples(page)
+    """How long it is."""
     page.want(page.text.count("\n") <= FIRST_LINES, 1, f"more than {FIRST_LINES} lines")
+
+
+def long_sentences(page):
+    """The line and the words of each sentence that is too long; a link counts as its text, a name in backticks as a word."""
     for number, text in paragraphs(page.text):
+        text = SPAN.sub("name", re.sub(r"\[([^\]]*)\]\([^)\s]+\)", r"\1", text))
         for cell in text.strip("|").split(" | ") if text.startswith("|") else [text]:
-            for sentence in re.split(r"(?<=[.?!])\s", LINK.sub("link", cell)):
-                count = len(sentence.split())
-                page.want(count <= SENTENCE_WORDS, number, f"a sentence of {count} words, and {SENTENCE_WORDS} is the most")
-
-
-def model(page, sources):
-    """That each definition which a contract cites is named, and each named one stands in the file beside it."""
-    named, crate = {}, ""
-    for number, text in paragraphs(page.text):
-        crate = (re.findall(r"crates/(\w+)/specs", text) or [crate])[-1]
-        cells = text.strip("|").split(" | ")
-        if not text.startswith("|") or len(cells) < 3:
-            continue
-        files = [f"{crate}/specs/{it}" for it in SPAN.findall(cells[2])]
-        for name in SPAN.findall(cells[0]):
-            named[name] = number
-            place = sources.places.get(name)
-            page.want(place is None or place in files, number, f"{name} stands in {place}")
-    for name, it in sorted(sources.cited().items(), key=lambda it: sources.places[it[0]]):
-        is_said = name in named or name.endswith("_view")
-        page.want(is_said, 1, f"no {name} ({sources.places[name]}), which {it.crate} {it.name} cites")
+            for sentence in re.split(r"(?<=[.?!:])\**\s", cell):
+                if len(sentence.split()) > SENTENCE_WORDS:
+                    yield number, sentence
 
 
 def floors(page):
@@ -243,21 +214,10 @@ def words_of(files):
     return words | {part for it in files for part in re.split(r"[/.]", it)}
 
 
-def refusals(page, _):
-    """That the tables are those of the sources."""
-    said, made = ({it for it in text.split("\n") if it.startswith("| `")} for text in (page.text, tables()))
-    for it in sorted(said ^ made):
-        page.want(False, 1, f"{'no row' if it in made else 'a row that is none:'} {it}")
-    page.want(made, 1, "no call can be refused")
-
-
 OF_PAGE = {
     "README.md": first_page,
     "CHANGELOG.md": versions,
-    "docs/promises.md": guards,
-    "docs/model.md": model,
     "docs/map.md": walks,
-    "docs/refusals.md": refusals,
     "samples/README.md": pictures,
 }
 
@@ -270,10 +230,15 @@ def main():
         page.widths()
         page.links()
         page.clauses(sources)
+        page.edits()
         if page.path not in NO_NAMES:
             page.names(words)
         OF_PAGE.get(page.path, lambda page, sources: None)(page, sources)
     faults = [fault for page in pages for fault in page.faults]
+    long = [f"{page.path}:{number}: {sentence[:100]} .." for page in pages for number, sentence in long_sentences(page)]
+    if len(long) > LONG_SENTENCES:
+        faults.append(f"{len(long)} sentences have more than {SENTENCE_WORDS} words, and {LONG_SENTENCES} may:")
+        faults += long
     print("".join(f"{fault}\n" for fault in faults), end="")
     print(f"{sum(page.looked for page in pages) - len(faults)} passed, {len(faults)} failed")
     return 1 if faults else 0

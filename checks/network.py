@@ -1,9 +1,9 @@
 #!/usr/bin/env python3
 """Networks that run with threads: runs `vanlab network` with all its options, and reads the reports.
 
-What is printed where everything is lost is held byte for byte. What another network prints is no two times the same:
-each line has its form, each submitted set has its line, by rising key, and no line says BAD. Records in files are read by
-another SQLite; a terminal is one that is made here. The last line is 'N passed, M failed'.
+What a network prints is no two times the same: each line has its form, each submitted set has its line, by rising key, and
+no line says BAD. Records in files are read by another SQLite; a terminal is one that is made here. What is always the same
+is in checks/rows/network.txt. The last line is 'N passed, M failed'.
 """
 import os
 import pty
@@ -16,9 +16,11 @@ import tempfile
 from concurrent.futures import ThreadPoolExecutor
 
 sys.dont_write_bytecode = True
-sys.path.insert(0, f"{os.path.dirname(os.path.realpath(__file__))}/tools")
+HERE = os.path.dirname(os.path.realpath(__file__))
+sys.path.insert(0, f"{HERE}/tools")
 from crates import processors
-from orders import PROGRAM
+
+PROGRAM = f"{os.path.dirname(HERE)}/crates/vanlab/out/vanlab"
 
 LINE = re.compile(r"ZZ/(ST[0-9]{2})            ([0-9]{9}) 01 001 ZZ/(ST[0-9]{2})            "
                   r"(?:accepted    1|rejected    0|pending     [01]) ok")
@@ -63,20 +65,9 @@ def is_report(out, options):
     return last == "settled" and all(keys) and keys == sorted(set(keys)) and [(it[0], it[2]) for it in keys] == pairs
 
 
-NOTHING_COMES = """\
-ZZ/ST01            000000001 01 001 ZZ/ST02            pending     0 ok
-ZZ/ST02            000000001 01 001 ZZ/ST01            pending     0 ok
-settled
-"""
-
-
 def try_losses():
-    """Where all is lost nothing comes, and the network ends when its turns are made. Else nothing is left pending in time,
-    and all orders are accepted but those that come before their receiver has agreed, as a starved station does late: a
-    network in which one is rejected is run again, three times in all."""
-    for more in ([], ["--hubs", "2"]):
-        told = run(["--orders", "1", "--lose", "1", "--turns", "50", *more])
-        count(told == (NOTHING_COMES, "", 0), f"all is lost {more}", told)
+    """Nothing is left pending in time, and all orders are accepted but those that come before their receiver has agreed, as
+    a starved station does late: a network in which one is rejected is run again, three times in all."""
     for options in ({}, {"orders": 1}, {"stations": 5, "orders": 3, "double": 2}, {"orders": 200},
                     {"stations": 16, "orders": 10}, {"lose": 3, "double": 4}, {"stations": 4, "lose": 5, "double": 3, "hold": 7},
                     {"hubs": 2}, {"hubs": 2, "lose": 3, "double": 4}, {"hubs": 2, "stations": 16, "orders": 10},
@@ -191,32 +182,10 @@ def try_terminal():
     count(is_report(out, options) and (said, status) == ("", 0), "--quiet", f"{status} {said!r}")
 
 
-def try_wrong():
-    """Words that are no network: status 2, one sentence that names the option, and nothing printed."""
-    wrong = {
-        "stations": ("1", "17", "02x", "+2", "", "0000000002"),
-        "hubs": ("0", "3", "two", "+1", ""),
-        "orders": ("0", "201", "-1"),
-        "lose": ("1001", "a"),
-        "double": ("1001", "1.5"),
-        "hold": ("1001", " 1"),
-        "turns": ("0", "1000001", "1e3"),
-    }
-    for name, values in wrong.items():
-        for value in values:
-            out, err, status = run([f"--{name}={value}"])
-            is_said = err.startswith(f"error: --{name} wants a number from ") and err.count("\n") == 1
-            count(is_said and (out, status) == ("", 2), f"--{name}={value}", f"{status} {err}")
-    for words in (["--losses", "3"], ["3"], ["--lose"], ["--lose", "1", "--lose", "2"]):
-        out, err, status = run(words)
-        count(bool(err) and (out, status) == ("", 2), " ".join(words), f"{status} {err}")
-
-
 if __name__ == "__main__":
     try_losses()
     try_random()
     try_files()
     try_terminal()
-    try_wrong()
     print(f"{passed} passed, {failed} failed")
     sys.exit(failed > 0)

@@ -1,8 +1,8 @@
 #!/usr/bin/env python3
 """The quick test, ./test --quick, for whoever is at work: some five minutes, and it proves next to nothing.
 
-It looks at layout, sizes and imports; builds the programs unproved, with their run-time checks, and runs the cases, the
-replies, the scripts and the nasty inputs over them; and runs all tests, unproved and without the address sanitizer. Of
+It looks at layout, sources and pages; builds the programs unproved, optimized and with their run-time checks, and runs the
+rows, the laws and the examples over them; and runs all tests, unproved and without the address sanitizer. Of
 what is proved it tries only the functions whose own lines differ from the last commit on main, where the libraries
 below them were built here before (`rt check` in a crate above does that): a clause that was changed is not tried on
 those who call it. What lands is what passes ./test.
@@ -22,13 +22,12 @@ HERE = os.path.dirname(os.path.realpath(__file__))
 TOP = os.path.dirname(HERE)
 sys.path[:0] = [HERE, f"{HERE}/tools"]
 import unproved
-from bodies import functions_in
 from crates import KIT, PARTS, crates_of, processors
-from gate import ignored
+from gate import PROGRAMS, ignored
+from source_text import functions_in
 
-PROGRAMS = ("van", "vanlab")
-OF_TEXTS = ["sizes.py", "unused_imports.py", "words.py", "documents.py"]
-OF_PROGRAMS = ["cases.sh", "replies.py", "scripts.py", "floods.py", "fuzz.py", "van.sh", "launcher.sh", "network.py"]
+OF_TEXTS = ["sources.py", "documents.py"]
+OF_PROGRAMS = ["rows.py", "laws.py", "examples.py", "fuzz.py", "launcher.sh", "network.py"]
 COUNTS = re.compile(r"(\d+) passed, (\d+) failed")
 
 
@@ -60,8 +59,9 @@ def changed_functions(crate):
     """The functions of a crate whose own lines differ from the last commit on main."""
     found = []
     for path, text in crate.sources().items():
-        lines = changed_lines(f"{crate.folder}/{path}")
-        found += [it.name for it in functions_in(path, text) if lines & set(range(it.first, it.last + 1))]
+        lines, module = changed_lines(f"{crate.folder}/{path}"), os.path.splitext(os.path.basename(path))[0]
+        its = functions_in(text, "" if path == crate.root else module)
+        found += [it.path for it in its if lines & set(range(it.first, it.last + 1))]
     return sorted(set(found))
 
 
@@ -78,7 +78,7 @@ def prove_changed(crate):
 
 
 def over_programs():
-    """Runs the scripts that want programs, over a copy in which both are built, unproved."""
+    """Runs the scripts that want programs, over a copy in which these are built, unproved."""
     with tempfile.TemporaryDirectory(prefix="quick-") as room:
         shutil.copytree(TOP, f"{room}/top", ignore=ignored(TOP))
         crates = [it for it in crates_of(f"{room}/top") if it.name in PROGRAMS]
@@ -89,8 +89,6 @@ def over_programs():
                 list(lanes.map(lambda it: unproved.build_program(it, f"{it.folder}/out/{it.name}"), crates))
         except unproved.Unbuilt as why:
             return [(str(why), 0, 1)]
-        # what isn't optimized takes longer
-        os.environ["CASE_SECONDS"] = "120"
         with ThreadPoolExecutor(processors()) as lanes:
             return list(lanes.map(lambda name: ran([f"checks/{name}"], f"{room}/top"), OF_PROGRAMS))
 

@@ -3,7 +3,7 @@ import os
 import re
 from collections import namedtuple
 
-from words import APART, behind, files_of, words_in
+from source_text import APART, behind, files_of, words_in
 
 # A function: its crate, the type or trait that it stands in (or none), its name, whether others may call it, the names
 # of its clauses, the words in them, and its body.

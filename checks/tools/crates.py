@@ -105,10 +105,9 @@ class Crate:
         they are named. Returns the exit status and what was said."""
         return self.timed_check(texts, only)[:2]
 
-    def timed_check(self, texts, only=(), tests=False):
-        """The same, and the processor seconds that it took; with its tests, where they are wanted. A file that has no
-        text is left out."""
-        words = self.command("check") + ["--test"] * tests
+    def timed_check(self, texts, only=()):
+        """The same, and the processor seconds that it took."""
+        words = self.command("check")
         for name in only:
             words += ["--only", name]
         with tempfile.TemporaryDirectory(prefix="edited-") as room, tempfile.TemporaryFile() as said:
@@ -117,11 +116,8 @@ class Crate:
                     shutil.copytree(f"{self.folder}/{part}", f"{room}/{part}")
             for path, text in texts.items():
                 os.makedirs(os.path.dirname(f"{room}/{path}"), exist_ok=True)
-                if text is not None:
-                    with open(f"{room}/{path}", "w", encoding="utf-8") as file:
-                        file.write(text)
-                elif os.path.exists(f"{room}/{path}"):
-                    os.remove(f"{room}/{path}")
+                with open(f"{room}/{path}", "w", encoding="utf-8") as file:
+                    file.write(text)
             with started(words, cwd=room, stdin=subprocess.DEVNULL, stdout=said, stderr=said) as running:
                 _, status, spent = os.wait4(running.pid, 0)
                 running.returncode = os.waitstatus_to_exitcode(status)

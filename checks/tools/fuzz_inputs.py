@@ -51,6 +51,8 @@ def transmission(rng):
 
 
 NAMES = ["ALPHA", "BETA", "GAMMA"]
+# Texts of orders: the last is longer than an order's number may be.
+TEXTS = ["P1", "P2", "P3", "P-4", "P" * 23]
 
 
 def line_of_script(rng, events):
@@ -58,17 +60,19 @@ def line_of_script(rng, events):
     one, two = rng.choice(NAMES), rng.choice(NAMES)
     number = rng.randrange(1, max(events, 1) + 1)
     deliver = f"deliver {number}.{rng.choice([1, 1, 1, 2, 3])}"
-    order = f"orders {one} {two} " + " ".join(rng.choice(["P1", "P2", "P3", "P-4"]) for _ in range(rng.randrange(1, 4)))
+    order = f"orders {one} {two} " + " ".join(rng.choice(TEXTS) for _ in range(rng.randrange(1, 4)))
     return rng.choice([deliver] * 14 + [order] * 3 + [
         f"collect {one}", f"collect {one}", f"collect {two}", f"tick {one} {rng.randrange(40)}", f"restart {one}",
-        "restart HUB", f"agree {one} {two} PO850", f"agree {one} {two}", f"enrol {one} {rng.choice(NAMES)}",
+        "restart HUB", f"agree {one} {two} PO850", f"agree {one} {two} lenient PO850", f"agree {one} {two}",
+        f"enrol {one} {rng.choice(NAMES)}",
         f"dismiss {one}", f"outside {one} {interchange(rng, number).decode('latin-1')}".replace("\n", "").replace("\r", ""),
         f"prepared {one} {interchange(rng, number).decode('latin-1')}".replace("\n", "").replace("\r", "")])
 
 
 def script(rng):
     lines = [f"station {it}" for it in NAMES] + [f"enrol {it} {it}" for it in NAMES if rng.random() < 0.9]
-    lines += [f"agree {one} {two} PO850" for one in NAMES for two in NAMES if one != two and rng.random() < 0.8]
+    lines += [f"agree {one} {two} {rng.choice(['', 'lenient '])}PO850" for one in NAMES for two in NAMES
+              if one != two and rng.random() < 0.8]
     for at in range(rng.randrange(5, 120)):
         lines.append(line_of_script(rng, len(lines) + at // 4))
     # what isn't ASCII is a bad line

@@ -1,17 +1,20 @@
 """The whole test: ./test, ./test --all, ./test --quick.
 
-./test works in a copy of the repository, and takes nothing that was kept but checks/verdicts.txt, and what a kit's `rt ci`
-keeps of its own. `rt ci` proves every crate from nothing, or takes it from a run on this machine that proved the same files
-over the same libraries, where the kit keeps that; it runs the programs, without the test crates and the wrong bodies.
-Beside it, at a lower priority, all tests are run unproved (tests.py), the verdicts that aren't known any more are tried
-(verdicts.py), and the scripts that need no proved program; behind it, side by side, those that do. --all takes no verdict as
-known, writes verdicts.txt anew, and runs the tests with the address sanitizer. --quick proves next to nothing: quick.py
-says what it does.
+./test works in a copy of the repository without its test crates, whose tests are run unproved. `rt ci` proves every crate
+there, tries wrong bodies of must-fail/ and runs the programs; what an earlier run on this machine passed, and what has not
+changed since, it takes from there. Of the wrong bodies ./test draws BODIES: first those of crates that differ from the branch
+main or stand on one that does, then others. --all tries every one. Beside it, at a lower priority, run the tests and the scripts that need no proved program
+(BESIDE); behind it, side by side, those that do (BEHIND). --all also proves the test crates, runs the tests with the address
+sanitizer, kills mailboxes more often, and fails where a wrong body shows nothing; ./test tells of such a body and goes on.
+--quick proves next to nothing: quick.py says what it does.
 
-What failed is told where it was tried, and once more at the end, with the last lines that say so. The last line is
-'N passed, M failed', of all that was tried, and where verdicts were taken from the record ', K skipped': so many.
+A script of checks/ that isn't listed here, or can't be run, is a failure. What failed is told where it was tried, and once more
+at the end, with the last lines that say so. The last line is 'N passed, M failed', of all that was tried, and where wrong
+bodies weren't drawn ', K skipped'.
 """
+import glob
 import os
+import random
 import re
 import shutil
 import subprocess
@@ -21,23 +24,52 @@ import threading
 import time
 from concurrent.futures import ThreadPoolExecutor
 
+sys.dont_write_bytecode = True
 HERE = os.path.dirname(os.path.realpath(__file__))
+sys.path.insert(0, HERE)
+from crates import crates_of, processors
+
 TOP = os.path.dirname(os.path.dirname(HERE))
+# Each entry is a script with its words; {run} is the folder of this run. ALL says what takes its place in --all.
+BESIDE = [
+    "sources.py",
+    "documents.py",
+    "tests.py --native --keep {run}/tests",
+    "refused_memory.py tests",
+    "database_file.py",
+    "linear_values.py",
+]
+BEHIND = [
+    "refused_memory.py program",
+    "mailbox.py",
+    "rows.py",
+    "laws.py",
+    "examples.py",
+    "fuzz.py",
+    "launcher.sh",
+    "network.py",
+    "recipes.py",
+    "package.py",
+    "power.py",
+    "strangers.py",
+]
+ALL = {"tests.py --native --keep {run}/tests": "tests.py --keep {run}/tests", "mailbox.py": "mailbox.py --kills 1000 --orders 2000"}
+# What the others use.
+NOT_RUN = ["quick.py", "pages.py"]
+# The crates whose tests are run unproved, and are proved in --all alone.
+OF_TESTS = re.compile(r"\w+_tests\b")
+# How many wrong bodies ./test tries.
+BODIES = 120
 # The first crates wait for one another, and are proved by runs of their own: as far as the one, then the other.
 FIRST = ["x12_numbers", "x12_acks"]
-# Beside the proofs, in two lanes; and behind them, over the programs that were proved. Some are told their part.
-PAGES = ["sizes.py", "unused_imports.py", "words.py", "documents.py"]
-BESIDE = [[*PAGES, "tests.py", "refused_memory.sh tests", "database_file.py", "linear_values.py"], ["verdicts.py"]]
-OF_SCRIPTS = ["cases.sh", "replies.py", "scripts.py", "floods.py", "fuzz.py"]
-BEHIND = ["refused_memory.sh program", "mailbox.py", *OF_SCRIPTS, "van.sh", "launcher.sh", "network.py"]
-# What the others use, or people alone.
-NOT_RUN = ["wrong_bodies.py", "verdicts_selftest.py", "quick.py"]
-COUNTS = re.compile(r"(\d+) passed, (\d+) failed(?:, (\d+) skipped)?")
+PROGRAMS = ("van", "vanlab")
+COUNTS = re.compile(r"(\d+) passed, (\d+) failed")
 # A library is there once it is proved, or given by an earlier run that proved the same files on this machine.
 PROVED = re.compile(r"rt: (\w+) (?:proved|is kept: .*)")
-PROGRAMS = ("van", "vanlab", "mailbox")
+# A wrong body that shows nothing: `rt ci` says so, and fails nothing.
+SHOWS_NOTHING = re.compile(r"BAD EDIT: |only because a proof file names what the edit took away")
 # Lines that tell of no failure, and how many of the others are told once more.
-WELL, AGAIN = re.compile(r": (refused|proved|tried)\b|: a check of |^\w+: modules|^statements |^logic=proved"), 20
+WELL, AGAIN = re.compile(r": refused\b|^logic=proved|^rt: \w+ (?:proved|is kept)"), 20
 PRINTING = threading.Lock()
 
 
@@ -46,30 +78,54 @@ def say(text):
         print(text, flush=True)
 
 
-def ignored(top, of_proofs=False):
-    """What a copy leaves out: what was made, and for the proofs the test crates and the wrong bodies."""
+def ignored(top):
+    """What a copy leaves out: what was made."""
 
     def names(folder, found):
         at = os.path.relpath(folder, top)
-        is_crate = os.path.dirname(at) == "crates"
-        out = [it for it in found if at == "." and it in (".git", "out") or is_crate and it == "out"]
-        if of_proofs:
-            out += [it for it in found if is_crate and it == "must-fail" or at == "crates" and it.endswith("_tests")]
-        return out
+        return [it for it in found if at == "." and it in (".git", "out") or os.path.dirname(at) == "crates" and it == "out"]
 
     return names
 
 
-def copies(run):
-    """Copies the repository twice: whole, and as it is proved."""
-    shutil.copytree(TOP, f"{run}/whole", ignore=ignored(TOP))
-    shutil.copytree(TOP, f"{run}/top", ignore=ignored(TOP, of_proofs=True))
+def leave_tests_out(top):
+    """Takes the test crates out of a copy."""
+    for name in filter(OF_TESTS.fullmatch, os.listdir(f"{top}/crates")):
+        shutil.rmtree(f"{top}/crates/{name}")
+    with open(f"{top}/crates.txt", "r+", encoding="utf-8") as file:
+        kept = [line for line in file if not OF_TESTS.match(line)]
+        file.seek(0)
+        file.truncate()
+        file.writelines(kept)
+
+
+def changed_crates():
+    """The crates that differ from the branch main, and those that stand on one that does."""
+    words = ["git", "diff", "--name-only", "main", "--", "crates"]
+    said = subprocess.run(words, cwd=TOP, capture_output=True, text=True, check=False).stdout
+    changed = set(re.findall(r"^crates/(\w+)/(?:src|specs|proofs|must-fail)/", said, re.M))
+    return {it.name for it in crates_of(TOP) if changed & {it.name, *[below.name for below in it.below()]}}
+
+
+def leave_bodies_out(top):
+    """Takes the wrong bodies that aren't drawn out of a copy; returns how many."""
+    bodies, changed = glob.glob(f"{top}/crates/*/must-fail/*.edit"), changed_crates()
+    random.shuffle(bodies)
+    bodies.sort(key=lambda it: it.split("/")[-3] not in changed)
+    for path in bodies[BODIES:]:
+        os.remove(path)
+    return len(bodies[BODIES:])
+
+
+def copies(run, is_all):
+    """Copies the repository twice: whole, and as it is proved. Returns how many wrong bodies were left out."""
+    for name in ("whole", "top"):
+        shutil.copytree(TOP, f"{run}/{name}", ignore=ignored(TOP))
+    if not is_all:
+        leave_tests_out(f"{run}/top")
     os.makedirs(f"{run}/top/.git")
     os.makedirs(f"{run}/proved")
-    with open(f"{TOP}/crates.txt", encoding="utf-8") as file:
-        kept = [line for line in file if not re.match(r"\w+_tests\b", line)]
-    with open(f"{run}/top/crates.txt", "w", encoding="utf-8") as file:
-        file.writelines(kept)
+    return 0 if is_all else leave_bodies_out(f"{run}/top")
 
 
 def lanes_of_proofs(number):
@@ -81,34 +137,33 @@ def lanes_of_proofs(number):
 class Gate:
     """A run: where it works, and what was counted so far."""
 
-    def __init__(self, run, words):
-        self.run, self.words, self.counts, self.times = run, words, [0, 0, 0], f"{run}/times"
+    def __init__(self, run, is_all, skipped):
+        self.run, self.is_all, self.skipped, self.counts = run, is_all, skipped, [0, 0]
         self.failures, self.began, self.proved = [], time.monotonic(), 0
 
     def count(self, name, said, status):
         """Adds what the last of a command's lines says, or else its status. What fails without a count is one failure."""
         found = COUNTS.fullmatch(said[-1])
-        passed, failed, skipped = (int(it or 0) for it in found.groups()) if found else (int(status == 0), 0, 0)
+        passed, failed = map(int, found.groups()) if found else (int(status == 0), 0)
         failed = failed or int(status != 0)
         if failed:
             say(f"failed: {name}")
         with PRINTING:
-            self.counts = [a + b for a, b in zip(self.counts, (passed, failed, skipped))]
+            self.counts = [self.counts[0] + passed, self.counts[1] + failed]
             if failed:
                 lines = [it for it in said if it.strip() and not WELL.search(it)]
                 self.failures += [f"failed: {name}, status {status}", *[f"  {it[:300]}" for it in lines[-AGAIN:]]]
 
-    def start(self, kind, folder, words, nice, **more):
-        """Starts a command in a folder, with these variables more, and has its processor time counted."""
-        timed = [sys.executable, "-B", f"{HERE}/times.py", "run", self.times, kind, *words]
-        its = {**os.environ, "GATE_RUN": self.run, "GATE_RECORD": f"{TOP}/checks/verdicts.txt", **more}
-        how = {"stdin": subprocess.DEVNULL, "stdout": subprocess.PIPE, "stderr": subprocess.STDOUT}
-        return subprocess.Popen([*["nice", "-n", "10"] * nice, *timed], cwd=folder, env=its, text=True, errors="replace", **how)
+    def start(self, folder, words, nice, **more):
+        """Starts a command in a folder, with these variables more."""
+        how = {"stdin": subprocess.DEVNULL, "stdout": subprocess.PIPE, "stderr": subprocess.STDOUT, "text": True, "errors": "replace"}
+        its = {**os.environ, "GATE_RUN": self.run, **more}
+        return subprocess.Popen([*["nice", "-n", "10"] * nice, *words], cwd=folder, env=its, **how)
 
     def run_ci(self, words, **more):
         """Runs `rt ci`, tells what it says as it says it, and notes each library that is there then: with names it works in a
         copy. Returns its lines and its status."""
-        running, said = self.start("-", f"{self.run}/top", ["rt", "ci", *words], 0, **more), [""]
+        running, said = self.start(f"{self.run}/top", ["rt", "ci", *words], 0, **more), [""]
         for line in running.stdout:
             said.append(line.rstrip("\n"))
             found = PROVED.fullmatch(said[-1])
@@ -118,7 +173,7 @@ class Gate:
         return said, running.wait()
 
     def prove(self, lanes):
-        """Proves all crates.
+        """Proves all crates, and has each wrong body refused.
 
         RT_JOBS says how many proofs run side by side: by itself `rt ci` wants four times the memory that they take. But it
         gives a proof one processor then, and most of them idle while the first crates wait for one another: so these are
@@ -127,48 +182,52 @@ class Gate:
             said, _ = self.run_ci([name])
             if not any(line.endswith("and that is kept. This is not the gate: run rt ci with no names") for line in said):
                 break
-        self.count("rt ci", *self.run_ci([], RT_JOBS=str(lanes)))
+        said, status = self.run_ci([], RT_JOBS=str(lanes))
+        self.count("rt ci", said, status)
+        weak = [it for it in said if SHOWS_NOTHING.search(it)]
+        if weak and self.is_all:
+            self.count("wrong bodies that show nothing", [*weak, f"0 passed, {len(weak)} failed"], 1)
         self.proved = time.monotonic()
         open(f"{self.run}/proved/.ended", "w", encoding="utf-8").close()
 
-    def check(self, name, folder, nice):
+    def check(self, entry, folder, nice):
         """Runs a script of checks/, and tells what it said once it has ended."""
-        of_tests = ["--native"] * (self.words != ["--all"]) + ["--keep", f"{self.run}/tests"]
-        script, *part = name.split()
-        words = {"verdicts.py": self.words, "tests.py": of_tests}.get(script, part)
-        kind = "edits" if script == "verdicts.py" else "check"
-        running = self.start(kind, folder, [f"checks/{script}", *words], nice)
+        name, *words = (ALL.get(entry, entry) if self.is_all else entry).format(run=self.run).split()
+        running = self.start(folder, [f"checks/{name}", *words], nice)
         said = running.communicate()[0].rstrip("\n")
-        say(f"== {name}\n{said}")
-        self.count(name, said.split("\n"), running.returncode)
+        say(f"== {entry}\n{said}")
+        self.count(entry, said.split("\n"), running.returncode)
 
-    def check_programs(self, name):
+    def check_programs(self, entry):
         """Runs a script over the proved programs, where they are there."""
         if all(os.path.isfile(f"{self.run}/top/crates/{it}/out/{it}") for it in PROGRAMS):
-            self.check(name, f"{self.run}/top", 0)
+            self.check(entry, f"{self.run}/top", 0)
         else:
-            self.count(f"{name}, since the programs aren't proved", [""], 1)
+            self.count(f"{entry}, since the programs aren't proved", [""], 1)
 
-    def lane(self, names):
-        for name in names:
-            self.check(name, f"{self.run}/whole", 1)
+    def check_beside(self):
+        for entry in BESIDE:
+            self.check(entry, f"{self.run}/whole", 1)
+
+    def check_list(self):
+        """Wants each script of checks/ to be listed, and to be one that can be run."""
+        listed = {it.split()[0] for it in [*BESIDE, *BEHIND]} | set(NOT_RUN)
+        there = {it for it in os.listdir(f"{TOP}/checks") if os.path.isfile(f"{TOP}/checks/{it}") and not it.endswith(".txt")}
+        for name in sorted(listed ^ there):
+            self.count(f"checks/{name}, which isn't in the list of what ./test runs, or isn't there", [""], 1)
+        for name in sorted(listed & there):
+            if not os.access(f"{TOP}/checks/{name}", os.X_OK):
+                self.count(f"checks/{name}, which may not be executed", [""], 1)
 
     def whole(self, processors):
         """All of it, on so many processors; returns whether nothing failed."""
-        for name in sorted(os.listdir(f"{TOP}/checks")):
-            listed = [*[it.split()[0] for it in [*sum(BESIDE, []), *BEHIND]], *NOT_RUN]
-            if os.path.isfile(f"{TOP}/checks/{name}") and not name.endswith(".txt") and name not in listed:
-                self.count(f"checks/{name}, which isn't in the list of what ./test runs", [""], 1)
-            elif name in listed and not os.access(f"{TOP}/checks/{name}", os.X_OK):
-                self.count(f"checks/{name}, which may not be executed", [""], 1)
-        beside = [threading.Thread(target=self.lane, args=[it]) for it in BESIDE]
-        for it in beside:
-            it.start()
+        self.check_list()
+        beside = threading.Thread(target=self.check_beside)
+        beside.start()
         self.prove(lanes_of_proofs(processors))
         with ThreadPoolExecutor(processors) as behind:
             list(behind.map(self.check_programs, BEHIND))
-        for it in beside:
-            it.join()
+        beside.join()
         return not self.counts[1]
 
     def leave(self):
@@ -178,17 +237,13 @@ class Gate:
             shutil.copy2(f"{self.run}/top/crates/{name}/out/{name}", f"{TOP}/crates/{name}/out/{name}")
 
     def tell(self):
-        """Tells the times beside those that were landed, what failed, and the counts."""
-        os.makedirs(f"{TOP}/out", exist_ok=True)
-        shutil.copyfile(self.times, f"{TOP}/out/times.txt")
-        subprocess.run([sys.executable, "-B", f"{HERE}/times.py", "tell", self.times, f"{TOP}/checks/budget.txt"], check=False)
+        """Tells how long it took, what failed, and the counts."""
         ended, proved = ((it - self.began) / 60 for it in (time.monotonic(), self.proved))
-        print(f"  {ended:.1f} minutes by the clock, {proved:.1f} of them until `rt ci` ended")
-        passed, failed, skipped = self.counts
+        print(f"  {ended:.0f} minutes by the clock, {proved:.0f} of them until `rt ci` ended")
         print("\n".join(self.failures), end="\n" * bool(self.failures))
-        if skipped:
-            print(f"{skipped} verdicts stand in checks/verdicts.txt: what they depend on is as it was, and they weren't tried again")
-        print(f"{passed} passed, {failed} failed" + (f", {skipped} skipped" if skipped else ""))
+        if self.skipped:
+            print(f"{self.skipped} wrong bodies weren't drawn: ./test --all tries every one")
+        print(f"{self.counts[0]} passed, {self.counts[1]} failed" + (f", {self.skipped} skipped" if self.skipped else ""))
 
 
 def main(words):
@@ -197,12 +252,9 @@ def main(words):
         return 2
     if words == ["--quick"]:
         return subprocess.run([f"{TOP}/checks/quick.py"], check=False).returncode
-    sys.path.insert(0, HERE)
-    from crates import processors
-
     with tempfile.TemporaryDirectory(prefix="gate-") as run:
-        copies(run)
-        gate = Gate(run, words)
+        skipped = copies(run, words == ["--all"])
+        gate = Gate(run, words == ["--all"], skipped)
         if gate.whole(processors()):
             gate.leave()
         gate.tell()

@@ -1,32 +1,23 @@
-#!/usr/bin/env python3
-"""The tables of docs/refusals.md: each public call of a library that can be refused, by its contract.
+"""Each public call of a library that can be refused, by its contract: the page of `checks/pages.py refusals`.
 
-usage: refusals.py [--write]
-
-A row is a call that answers a Result: what it is refused with, the clauses that say when, and the clauses that say what
-a refusal leaves. checks/documents.py holds the page against these; --write puts them into the page.
+A row is a call that answers a Result: its fault, the clauses that say when it comes, and the clauses that say what it
+leaves. A reader's or a writer's own errors are those of whoever passed it in. A call may also answer that memory ran out.
 """
 import os
 import re
-import sys
 
-sys.dont_write_bytecode = True
-HERE = os.path.dirname(os.path.realpath(__file__))
-sys.path[:0] = [os.path.dirname(HERE), HERE]
-from contracts import CLAUSE, HEAD, blank, end_of_head, owner_at
-from words import behind, files_of
+from contracts import CLAUSE, HEAD, behind, blank, end_of_head, files_of, owner_at
 
-PAGE = os.path.join(os.path.dirname(os.path.dirname(HERE)), "docs", "refusals.md")
-TABLES = "\n## By crate\n"
+TITLE = "# Each call that can be refused"
 RESULT = re.compile(r"->\s*(Result<.*?>)\s*(?=where\b|requires\b|ensures\b|\{|;)", re.S)
 OF_ERR = re.compile(r"\b(?:IfErr|OnErr|IsErr|IsErrAnd|MatchResult)\b")
 OF_OK = re.compile(r"\b(?:IfOk|OnOk)\b")
 # The words of clauses that say when a call is refused, and of those that say what is left where it is.
 WHEN = {"refused", "fault", "err", "exhausted", "not_new", "other", "others", "ours", "inconsistent", "stopped", "device",
-        "store", "memory", "outline", "read", "unreadable", "too_long", "fits", "bad_line"}
+        "store", "memory", "outline", "fails", "once", "read", "unreadable", "too_long", "fits", "bad_line"}
 LEFT = {"unchanged", "back", "same", "front", "crash", "disk", "answered", "never_won_back", "goes_on", "was_clean", "answers",
         "clean", "asked", "nodes", "written", "plan", "moves", "no_replies", "no_lines", "stopped", "nothing_printed", "nothing_told",
-        "asks_none", "unsent", "unsettled", "undrafted", "unnamed", "unkept", "unsure", "reserved", "survives", "mode", "hub", "lost", "err"}
+        "asks_none", "left", "counted", "unsent", "unsettled", "undrafted", "unnamed", "unkept", "unsure", "reserved", "survives", "mode", "hub", "lost", "err"}
 # Where no clause says when: what shows it.
 SHOWN = {
     "command_table": "`checks/cases.sh` and `checks/refused_memory.sh`",
@@ -43,7 +34,7 @@ SHOWN = {
     "sql_rows": "tests of x12_records_tests",
     "x12_verify": "nothing: its records answer nothing then, or memory is missing",
 }
-APART = ("van", "vanlab", "mailbox", "x12_samples")
+APART = ("van", "vanlab", "x12_samples")
 
 
 def last_type(result):
@@ -89,8 +80,8 @@ def row(crate, name, fault, clauses, may_change, of_trait):
 
 
 def tables():
-    """The text of the page from its tables on."""
-    lines, crate = [TABLES], None
+    """The page."""
+    lines, crate = [TITLE], None
     for path, text in files_of("src", ".rt"):
         here = path.split(os.sep)[0]
         if here.endswith("_tests") or here in APART:
@@ -98,20 +89,6 @@ def tables():
         for it in rows_in(text):
             if here != crate:
                 crate = here
-                lines.append(f"### {crate}\n\n| Call | Its fault | When | What is left |\n|---|---|---|---|")
+                lines.append(f"## {crate}\n\n| Call | Its fault | When | What is left |\n|---|---|---|---|")
             lines.append(row(here, *it))
-    return re.sub(r"\n(### )", r"\n\n\1", "\n".join(lines)) + "\n"
-
-
-def main(words):
-    if words == ["--write"]:
-        with open(PAGE, encoding="utf-8") as file:
-            front = file.read().split(TABLES)[0]
-        with open(PAGE, "w", encoding="utf-8") as file:
-            file.write(front + tables())
-    else:
-        print(tables(), end="")
-
-
-if __name__ == "__main__":
-    main(sys.argv[1:])
+    return re.sub(r"\n(## )", r"\n\n\1", "\n".join(lines)) + "\n"

@@ -1,1 +1,0 @@
-cat samples/lost_twice.script

@@ -1,4 +1,0 @@
-# 300 orders
-for _ in {1..300}; do
-  printf '%s' 'ISA*00*          *00*          *ZZ*ALPHA          *ZZ*BETA           *250102*0930*U*00401*000000001*1*P*:~GS*PO*ALPHA*BETA*20250102*0930*1*X*004010~ST*850*0001~BEG*00*SA*PO-1**20250102~PO1*1*10*EA*5~SE*4*0001~GE*1*1~IEA*1*000000001~'
-done

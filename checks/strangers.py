@@ -1,0 +1,342 @@
+#!/usr/bin/env python3
+"""Strangers at the folder: what other programs and other people's accounts write into a mailbox, and what they may read.
+
+usage: strangers.py [PROGRAM] [--only WORD]
+
+Two users of this machine: the hub's and its stations' account, and a partner's, which may write into his `in` and read his
+`out`, as docs/mailbox.md says. Each row is a sentence: files that are replaced, half written or growing; names of any bytes,
+and too long ones; links and pipes in a partner's folder; rights; a lost `handed`; an empty item; a mailbox that is linked
+already; numbers of mailboxes. Where a program can't be started as another user it says so, and the rows that want two users
+count neither as passed nor as failed.
+
+Prints a line for what is wrong, and last 'N passed, M failed'.
+"""
+import argparse
+import os
+import re
+import shutil
+import subprocess
+import sys
+import tempfile
+import time
+
+TOP = os.path.dirname(os.path.dirname(os.path.realpath(__file__)))
+OWNER, PARTNER, SHARED = 65531, 65532, 65533  # two users without a name, and a group of both
+OLD = "touch -d '5 minutes ago'"
+
+
+def order(icn, number="PO-1", sender="ALPHA", receiver="BETA"):
+    isa = f"ISA*00*          *00*          *ZZ*{sender:<15}*ZZ*{receiver:<15}*250102*0930*U*00401*{icn:09}*0*P*:~"
+    told = f"ST*850*0001~BEG*00*SA*{number}**20250102~PO1*1*10*EA*5~SE*4*0001~"
+    return f"{isa}GS*PO*{sender}*{receiver}*20250102*0930*{icn}*X*004010~{told}GE*1*{icn}~IEA*1*{icn:09}~"
+
+
+def may_be_another():
+    """Whether a program can be started as another user."""
+    try:
+        return subprocess.run(["true"], user=OWNER, group=OWNER, extra_groups=[SHARED], check=False).returncode == 0
+    except (OSError, subprocess.SubprocessError):
+        return False
+
+
+class Place:
+    """A hub and its stations alpha and beta, which the owner's account made; beta takes orders of alpha."""
+
+    def __init__(self, program, room, name, others):
+        self.folder, self.others = f"{room}/{name}", others
+        os.mkdir(self.folder)
+        shutil.copyfile(program, f"{self.folder}/van")
+        os.chmod(f"{self.folder}/van", 0o755)
+        if others:
+            os.chown(self.folder, OWNER, OWNER)
+        self.wants("""set -e; umask 0
+            ./van init hub --me ZZHUB --is-hub && ./van enrol hub ZZALPHA && ./van enrol hub ZZBETA
+            ./van init alpha --me ZZALPHA --hub ZZHUB --at hub && ./van init beta --me ZZBETA --hub ZZHUB --at hub
+            ./van agree beta ZZALPHA PO850""")
+
+    def user(self, who):
+        return {"user": who, "group": who, "extra_groups": [SHARED]} if self.others else {}
+
+    def run(self, command, who=OWNER):
+        how = {"stdin": subprocess.DEVNULL, "stdout": subprocess.PIPE, "stderr": subprocess.PIPE, "text": True, "errors": "replace"}
+        ran = subprocess.run(["bash", "-c", command], cwd=self.folder, timeout=120, check=False, **how, **self.user(who))
+        return ran.returncode, ran.stdout, ran.stderr
+
+    def wants(self, command):
+        status, out, err = self.run(command)
+        if status:
+            raise SystemExit(f"strangers: {command}: status {status}, {out} {err}")
+        return out
+
+    def start(self, words):
+        how = {"stdin": subprocess.DEVNULL, "stdout": subprocess.PIPE, "stderr": subprocess.PIPE}
+        return subprocess.Popen([f"{self.folder}/van", *words.split()], cwd=self.folder, **how, **self.user(OWNER))
+
+    def path(self, name):
+        return f"{self.folder}/{name}"
+
+    def write(self, name, text):
+        """Writes a file as the owner's; in the place of one of this name, if there is one."""
+        path = self.path(name)
+        with open(f"{self.folder}/writing", "w", encoding="latin-1") as file:
+            file.write(text)
+        if self.others:
+            os.chown(f"{self.folder}/writing", OWNER, OWNER)
+        os.replace(f"{self.folder}/writing", path)
+
+    def shared(self):
+        """The rights of a partner's account, as the page says."""
+        self.wants("chmod 711 hub hub/ZZALPHA")
+        for name, rights in (("in", 0o2770), ("out", 0o2750)):
+            os.chown(self.path(f"hub/ZZALPHA/{name}"), OWNER, SHARED)
+            os.chmod(self.path(f"hub/ZZALPHA/{name}"), rights)
+
+    def names(self, folder):
+        return sorted(it for it in os.listdir(self.path(folder)) if not it.startswith("."))
+
+
+def waits_for(path, seconds=60):
+    ends = time.monotonic() + seconds
+    while not os.path.exists(path) and time.monotonic() < ends:
+        time.sleep(0.001)
+    return os.path.exists(path)
+
+
+def replaced(place, folder, who, put):
+    """A file of 40 interchanges is replaced under its name while a turn is at work; the next turn takes the new one."""
+    place.write(f"{folder}/orders.edi", "".join(order(n) for n in range(1, 41)))
+    turn = place.start(f"run {who}")
+    begun = waits_for(place.path(put)) and turn.poll() is None
+    place.write(f"{folder}/orders.edi", order(1000))
+    turn.communicate()
+    _, out, err = place.run(f"./van run {who}")
+    return begun and ": 000001000 from" in out and not place.names(folder), f"at work: {begun}; {out} {err}"
+
+
+def a_file_that_is_replaced_in_submit(place):
+    return replaced(place, "alpha/submit", "alpha", "alpha/out/sent-000000003.edi")
+
+
+def a_file_that_is_replaced_at_the_hub(place):
+    return replaced(place, "hub/ZZALPHA/in", "hub", "hub/ZZALPHA/taking/in/orders.edi")
+
+
+def a_file_that_is_half_written(place):
+    text = order(1) + order(2, "PO-2") + order(3, "PO-3")
+    told = []
+    for front in (0, 50, len(order(1)) + 200, len(text) - 1):
+        with open(place.path("alpha/submit/slow.edi"), "w", encoding="ascii") as file:
+            file.write(text[:front])
+            file.flush()
+            told.append(place.run("./van run alpha"))
+            file.write(text[front:])
+        _, out, err = place.run("./van run alpha")
+        if out.count("alpha/out/sent-") != 3 or place.names("alpha/refused") or any(it[1] for it in told):
+            return False, f"{front} bytes: {told}, then {out} {err}"
+    return True, ""
+
+
+def a_file_that_ends_early_and_is_old(place):
+    place.write("hub/ZZALPHA/in/early.edi", order(1)[:200])
+    first = place.run("./van run hub")
+    second = place.run(f"{OLD} hub/ZZALPHA/in/early.edi; ./van run hub")
+    return not first[1] and second[1].startswith("hub/ZZALPHA/in/early.edi: 000000001 from"), f"{first} {second}"
+
+
+def a_file_that_grows_while_it_is_taken(place):
+    with open(place.path("alpha/submit/grows.edi"), "w", encoding="ascii") as file:
+        file.write("".join(order(n) for n in range(1, 41)))
+        file.flush()
+        turn = place.start("run alpha")
+        begun = waits_for(place.path("alpha/out/sent-000000003.edi")) and turn.poll() is None
+        file.write(order(41))
+        file.flush()
+        turn.communicate()
+    place.run("./van run alpha")
+    return begun and os.path.exists(place.path("alpha/out/sent-000000041.edi")), f"at work: {begun}"
+
+
+def names_of_files_that_are_not_there_yet(place):
+    for name in (".a", "a~", "a.tmp", "a.part", "a.edi.filepart"):
+        place.write(f"alpha/submit/{name}", order(1))
+    _, out, err = place.run("./van run alpha; ls -A alpha/submit | wc -l")
+    return (out, err) == ("5\n", ""), f"{out} {err}"
+
+
+def an_item_that_is_empty(place):
+    place.write("o.edi", order(1))
+    place.wants(f"./van submit alpha o.edi && ./van run hub && : >beta/in/item-000000001.edi && {OLD} beta/in/item-000000001.edi")
+    first = place.run("./van run beta; ls beta/out/")
+    second = place.run("./van run hub; ./van run beta; ls beta/posted")
+    return first[1] == "beta/in/item-000000001.edi: 0 bytes\n" and second[1].endswith("ZZALPHA-000000001-01-001.850\n"), f"{first} {second}"
+
+
+def a_name_that_is_not_utf_8(place):
+    for folder, who in (("alpha/submit", "alpha"), ("hub/ZZALPHA/in", "hub"), ("beta/posted", "beta")):
+        name = os.fsencode(place.path(folder)) + b"/A\xfc.edi"
+        with open(name, "wb"):
+            pass
+        place.write(f"{folder}/b.edi", order(1))
+        status, out, err = place.run(f"./van run {who}")
+        told = f"{folder}/A\\xFC.edi is passed over: its name isn't UTF-8, so rename it"
+        if status or (folder != "beta/posted" and (told not in err or "b.edi: 000000001" not in out)):
+            return False, f"{folder}: {status} {out} {err}"
+    return True, ""
+
+
+def a_refused_name_that_is_too_long(place):
+    name = "a" * 255
+    place.write(f"hub/ZZALPHA/in/{name}", "text")
+    place.write("hub/ZZALPHA/in/b.edi", order(1))
+    status, out, err = place.run("./van run hub")
+    kept = place.names("hub/ZZALPHA/refused")
+    is_so = status == 0 and not err and "b.edi: 000000001" in out and kept == [name[:230], f"{name[:230]}.why"]
+    return is_so, f"{status} {out} {err} {kept}"
+
+
+def names_of_which_a_thousand_are_kept(place):
+    for n in range(1, 1001):
+        place.write(f"hub/ZZALPHA/refused/a{'' if n == 1 else f'.{n}'}", f"other {n}")
+    place.write("hub/ZZALPHA/in/a", "text")
+    status, out, err = place.run("./van run hub; cat hub/ZZALPHA/refused/a.??????????")
+    return status == 0 and out.endswith("\ntext") and len(place.names("hub/ZZALPHA/refused")) == 1002, f"{out[-300:]} {err}"
+
+
+def a_reason_never_overwrites(place):
+    place.write("hub/ZZALPHA/refused/x.why", "kept before")
+    place.write("hub/ZZALPHA/in/x", "text")
+    _, out, err = place.run("./van run hub >/dev/null; cat hub/ZZALPHA/refused/x.why; ls hub/ZZALPHA/refused")
+    return out == "kept beforex.2\nx.2.why\nx.why\n", f"{out} {err}"
+
+
+def a_folder_with_a_dot_in_posted(place):
+    place.write("o.edi", order(1))
+    place.wants("mkdir -p beta/posted/.folder && ./van submit alpha o.edi && ./van run hub")
+    status, out, err = place.run("./van run beta")
+    return status == 0 and "beta/posted/ZZALPHA-000000001-01-001.850" in out and ".folder" in err, f"{status} {out} {err}"
+
+
+def a_lost_mark_hands_nothing_over(place):
+    for n in (1, 2):
+        place.write("o.edi", order(n, f"PO-{n}"))
+        place.wants("./van submit alpha o.edi && ./van run hub && ./van run beta")
+    place.wants("rm beta/handed beta/posted/*")
+    told = "van: beta/handed: it isn't there, so say how many sets were handed over, by van run with --handed N\n"
+    first = place.run("./van run beta; ls -d beta/posted/* beta/handed")
+    fewer = place.run("./van run beta --handed 3")
+    told_so = place.run("./van run beta --handed 1; ls beta/posted; cat beta/handed")
+    again = place.run("./van run beta --handed 1")
+    is_so = first[2].startswith(told) and not first[1] and fewer[0] == 1 and again[0] == 1
+    return is_so and told_so[1].endswith("ZZALPHA-000000002-01-001.850\n1 2\n"), f"{first} {fewer} {told_so} {again}"
+
+
+def a_name_that_is_refused_in_a_watch_loses_nothing(place):
+    """A folder stands under the name of the second of three sets, while a watch goes on."""
+    place.wants("mkdir -p beta/posted/ZZALPHA-000000002-01-001.850/in")
+    watch = place.start("run beta --watch 1 --turns 30")
+    for n in (1, 2, 3):
+        place.write("o.edi", order(n, f"PO-{n}"))
+        place.wants("./van submit alpha o.edi && ./van run hub")
+        waits_for(place.path(f"hub/ZZBETA/in/sent-{n:09}.edi"))
+        time.sleep(1.5)
+    place.wants("rm -r beta/posted/ZZALPHA-000000002-01-001.850")
+    found = all(waits_for(place.path(f"beta/posted/ZZALPHA-{n:09}-01-001.850"), 20) for n in (1, 2, 3))
+    watch.kill()
+    said = watch.communicate()
+    return found, f"{place.names('beta/posted')} {said}"
+
+
+def a_number_of_a_mailbox_is_never_given_twice(place):
+    place.write("o.edi", order(1))
+    place.wants("./van submit alpha o.edi && ./van run hub && ./van enrol hub ZZBETA --dismiss && rm -r hub/ZZBETA")
+    status, out, err = place.run("./van enrol hub ZZGAMMA; cat hub/ZZGAMMA/node")
+    return (status, out) == (0, "ZZ/GAMMA has mailbox 3: hub/ZZGAMMA\n3\n"), f"{status} {out} {err}"
+
+
+def a_second_station_at_a_mailbox(place):
+    second = place.run("./van init second --me ZZALPHA --hub ZZHUB --at hub; ls -A second")
+    wrong = place.run("./van enrol hub ZZDELTA; ./van init delta --me ZZDELTA --hub ZZWRONG --at hub; ls delta")
+    again = place.run("rm alpha/mailbox; ./van init alpha --me ZZALPHA --hub ZZHUB --at hub")
+    is_so = "hub/ZZALPHA is linked to the station in " in second[2] and not second[1] and again[0] == 0
+    return is_so and "hub is the hub ZZ/HUB, and not ZZ/WRONG" in wrong[2], f"{second} {wrong} {again}"
+
+
+def a_folder_that_is_named_twice_is_reconciled_once(place):
+    place.write("o.edi", order(1))
+    place.wants("./van submit alpha o.edi")
+    _, out, err = place.run("./van reconcile alpha beta ./alpha")
+    return out.count("\n") == 1 and not err, f"{out} {err}"
+
+
+def all_that_is_made_is_the_owners_alone(place):
+    place.write("o.edi", order(1))
+    place.write("hub/ZZALPHA/in/text", "text")
+    place.wants("umask 0; ./van submit alpha o.edi; for who in hub beta hub alpha; do ./van run $who; done")
+    found = place.wants("find hub alpha beta ! -type l -perm /077 ! -path '*/in/text'")
+    return not found, found
+
+
+def links_of_a_partner_are_not_followed(place):
+    place.shared()
+    secret = "ln -s ../../records.db hub/ZZALPHA/in/a; ln -s /proc/self/environ hub/ZZALPHA/in/b; mkfifo hub/ZZALPHA/in/c"
+    made = place.run(secret, PARTNER)
+    status, out, err = place.run("./van run hub; find hub/ZZALPHA/refused -type f")
+    told = len(re.findall(r"^van: hub/ZZALPHA/in/[abc] is passed over: it is no file$", err, re.M))
+    return (made[0], status, out, told) == (0, 0, "", 3), f"{made} {status} {out} {err}"
+
+
+def nothing_is_written_through_a_link(place):
+    place.write("o.edi", order(1, sender="ALPHA", receiver="BETA"))
+    place.write("victim", "as it was")
+    place.wants("ln -s ../../../victim hub/ZZBETA/out/.item-000000001.edi; ln -s ../../victim alpha/out/.sent-000000001.edi")
+    _, out, err = place.run("./van submit alpha o.edi; ./van run hub; cat victim; ls hub/ZZBETA/out")
+    return out.endswith("as it wasitem-000000001.edi\n"), f"{out} {err}"
+
+
+def a_partner_reads_and_writes_his_own_alone(place):
+    place.shared()
+    place.write("o.edi", order(1, sender="BETA", receiver="ALPHA"))
+    place.wants("./van submit beta o.edi && ./van run hub")
+    reads = place.run("cat hub/ZZALPHA/out/item-000000001.edi", PARTNER)[1] == order(1, sender="BETA", receiver="ALPHA")
+    place.write("s.edi", order(1))
+    place.wants("chmod 644 s.edi")
+    wrote = place.run("umask 007; cp s.edi hub/ZZALPHA/in/.s && mv hub/ZZALPHA/in/.s hub/ZZALPHA/in/s.edi", PARTNER)
+    others = [place.run(f"cat {it}", PARTNER)[1] for it in ("hub/records.db", "hub/records.db-wal", "hub/ZZBETA/in/*", "alpha/*")]
+    _, out, err = place.run("./van run hub")
+    is_so = reads and wrote[0] == 0 and not any(others) and "hub/ZZALPHA/in/s.edi: 000000001" in out
+    return is_so, f"{reads} {wrote} {[it[:40] for it in others]} {out} {err}"
+
+
+WITH_ONE = [
+    a_file_that_is_replaced_in_submit, a_file_that_is_replaced_at_the_hub, a_file_that_is_half_written,
+    a_file_that_ends_early_and_is_old, a_file_that_grows_while_it_is_taken, names_of_files_that_are_not_there_yet,
+    an_item_that_is_empty, a_name_that_is_not_utf_8, a_refused_name_that_is_too_long, names_of_which_a_thousand_are_kept,
+    a_reason_never_overwrites, a_folder_with_a_dot_in_posted, a_lost_mark_hands_nothing_over, a_second_station_at_a_mailbox,
+    a_name_that_is_refused_in_a_watch_loses_nothing, a_number_of_a_mailbox_is_never_given_twice,
+    a_folder_that_is_named_twice_is_reconciled_once, all_that_is_made_is_the_owners_alone, nothing_is_written_through_a_link,
+]
+WITH_TWO = [links_of_a_partner_are_not_followed, a_partner_reads_and_writes_his_own_alone]
+
+
+def main():
+    reading = argparse.ArgumentParser()
+    reading.add_argument("program", nargs="?", default=f"{TOP}/crates/van/out/van")
+    reading.add_argument("--only", default="")
+    asked = reading.parse_args()
+    others, passed, failed = may_be_another(), 0, 0
+    if not others:
+        print(f"strangers: no program can be started as another user here, so {len(WITH_TWO)} rows weren't tried")
+    with tempfile.TemporaryDirectory(prefix="strangers-") as room:
+        os.chmod(room, 0o711)
+        for row in WITH_ONE + WITH_TWO * others:
+            if asked.only in row.__name__:
+                is_so, said = row(Place(os.path.abspath(asked.program), room, row.__name__, others))
+                passed, failed = passed + bool(is_so), failed + (not is_so)
+                if not is_so:
+                    print(f"strangers, {row.__name__.replace('_', ' ')}: {said}")
+    print(f"{passed} passed, {failed} failed")
+    return 1 if failed else 0
+
+
+if __name__ == "__main__":
+    sys.exit(main())

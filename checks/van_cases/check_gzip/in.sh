@@ -1,1 +1,0 @@
-gzip -nc samples/order.edi

@@ -1,1 +1,0 @@
-head -c 16777217 /dev/zero
