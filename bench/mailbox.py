@@ -5,7 +5,7 @@ First it fills a station's records, by SQLite, with submissions of one order eac
 writes them: 14,000, 140,000 and 1,400,000 (some 10 MB, 100 MB and 1 GB), or up to N. Over each it tells by the clock how long
 an open takes, how long `status` of all and `log` of one, and how much memory they take. Then it tells how long a station's turn takes
 over N waiting interchanges (10,000), beside the same commits and file calls in C (mailbox/main.c, over libsqlite3 with its
-header), and a hub's; the least of N rounds (three), interleaved. PROGRAM is that of crates/mailbox; an unproved build tells other
+header), and a hub's; the least of N rounds (three), interleaved. PROGRAM is van; an unproved build tells other
 figures.
 """
 import argparse
@@ -119,7 +119,7 @@ def turns(program, room, waiting, rounds):
 
 def main():
     reading = argparse.ArgumentParser()
-    reading.add_argument("program", nargs="?", default=f"{TOP}/crates/mailbox/out/mailbox")
+    reading.add_argument("program", nargs="?", default=f"{TOP}/crates/van/out/van")
     reading.add_argument("--most", type=int, default=1_400_000)
     reading.add_argument("--waiting", type=int, default=10_000)
     reading.add_argument("--rounds", type=int, default=3)
