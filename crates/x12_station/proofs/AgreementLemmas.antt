@@ -5,6 +5,7 @@ use Rattle.x12_envelopes.specs.Party.{is_plain_party}
 use Rattle.x12_judge.specs.Agreement.{TradingAgreement, agreement_view}
 use Rattle.x12_outbound.specs.Ledger.{LedgerRow}
 use Rattle.x12_outbound.specs.Hubs.{hubs_of}
+use Rattle.x12_profile.specs.Marking.{marks_view}
 use Rattle.x12_station.specs.declared.cached.Cached.{Cached}
 use Rattle.x12_station.specs.working.Agreeing.{stored_agreed, IsSameBeside, IsMemoryAgreed, IsSameButRoom}
 use Rattle.x12_station.specs.Durable.{IsHistoryOf, items_of}
@@ -49,6 +50,7 @@ module _ (old new : Cached) (same : IsSameBeside old new) where
   -- memory and records as they were
   pub keeps_same : (s : Stored) → map agreement_view new.agreements.items ≡ map agreement_view old.agreements.items → Caches old s → Caches new s
   keeps_same s agreements keeps = record {
+    marks = ap marks_view same.marks ∙ keeps.marks;
     book = same.book ∙ keeps.book;
     seq = same.seq ∙ keeps.seq;
     agreements = agreements ∙ keeps.agreements;
@@ -59,6 +61,7 @@ module _ (old new : Cached) (same : IsSameBeside old new) where
   pub keeps_agreed : (a : TradingAgreement) (s : Stored) → map agreement_view new.agreements.items ≡ agreed a (map agreement_view old.agreements.items) → Caches old s → Caches new (stored_agreed a s)
   unfolding entries
   keeps_agreed a s agreements keeps = record {
+    marks = ap marks_view same.marks ∙ keeps.marks;
     book = same.book ∙ keeps.book;
     seq = same.seq ∙ keeps.seq;
     agreements = agreements ∙ ap (agreed a) keeps.agreements;
@@ -83,7 +86,7 @@ durable_planned a m s ready keeps durable =
 pub holds_agreed : (a : TradingAgreement) (m : Cached) (s : Stored) → Caches m s
     → HoldsState (record (station_of m.ledger.holds m.counts s) { agreements = agreed a s.agreements }) (stored_after (record { book = m.book; seq = m.seq; change = Agrees a }) s)
 unfolding items_of
-holds_agreed a m s keeps = record { items = rw keeps.seq refl; agreements = refl; book = keeps.book }
+holds_agreed a m s keeps = record { marks = refl; items = rw keeps.seq refl; agreements = refl; book = keeps.book }
 
 pub held_same : (old new : Cached) (s t : Stored) → IsSameButRoom old new → t ≡ s → Caches old s → IsHistoryOf old.ledger.holds.me old.ledger.holds.hubs s
     → Caches new t × IsHistoryOf new.ledger.holds.me new.ledger.holds.hubs t
@@ -115,6 +118,7 @@ on_err (Err x) p f = f p
 -- more room isn't seen of memory
 pub kept_but_room : (old new : Cached) → IsSameButRoom old new → memory_of new ≡ memory_of old
 kept_but_room old new kept = λ i. record {
+  marks = marks_view (kept.beside.marks i);
   book = kept.beside.book i;
   seq = kept.beside.seq i;
   agreements = map agreement_view (kept.agreements i);

@@ -14,11 +14,11 @@ use Rattle.x12_outbound.specs.Entry.{SetRow, GroupRow, submission_of_entry, set_
 use Rattle.x12_outbound.specs.Settling.{Fates, settled_fates}
 use Rattle.x12_profile.specs.Interchange.{Bytes}
 use Rattle.x12_profile.specs.declared.edition.Edition.{Edition}
-use Rattle.x12_profile.specs.Edition.{edition_at, no_marks}
+use Rattle.x12_profile.specs.Edition.{edition_at}
 use Rattle.x12_profile.specs.X12.{x12, submission_in_bytes}
 use Rattle.x12_profile.proofs.PartyLemmas.{is_same_party-Decides}
 use Rattle.x12_station.specs.History.{Item, Came, submissions, fate_in}
-use Rattle.x12_station.specs.Stored.{AreNumbered, Stored, StoredSet, rows_of_entry}
+use Rattle.x12_station.specs.Stored.{AreNumbered, Stored, StoredSet, marks_of, rows_of_entry}
 use Rattle.x12_station.specs.Plan.{rows_settled}
 use Rattle.x12_station.specs.Record.{IsWholeEntry}
 use Rattle.x12_station.specs.Durable.{items_of, fared_entries, IsOwnSubmission, IsHistoryOf}
@@ -26,7 +26,7 @@ use Rattle.x12_station.proofs.ListLemmas.{contains_map, contains_flat_map}
 use Rattle.x12_numbers.proofs.Shelf.{contains_mapped, all_from_contains, map_twice, flat_map_same_at}
 use Rattle.x12_station.proofs.ItemLemmas.{length_items, submissions-append}
 use Rattle.x12_station.proofs.CellLemmas.{Cell, cells_of, entry_by, group_by, set_by, row_by, rows_by, map_flat_map, flat_map_map, map_same_at}
-use Rattle.x12_station.proofs.FateLemmas.{brought, fate_after, is_newest}
+use Rattle.x12_station.proofs.FateLemmas.{brought, fate_after}
 use Rattle.x12_station.proofs.TargetLemmas.{targets_by, IsOurs, FareSo, key_of_row, row_told, rows_told, told_is_settled}
 use Rattle.x12_station.proofs.KnownLemmas.{known, all_submitted, fate_at, entry_of, entries_are, submitted_are, all_of_all, all_hold, key_in, cell_fares_in}
 use Rattle.x12_station.proofs.OwnLemmas.{submission_is, bytes_read, fates_in, entry_in}
@@ -37,10 +37,10 @@ submissions_stay items ed b r = submissions-append items (Came ed b r ∷ []) �
 
 -- the edition of what comes next to these records
 abbrev pub edition_of : Stored → Edition
-edition_of s = edition_at no_marks (length (items_of s) + 1)
+edition_of s = edition_at (marks_of s.origin) (length (items_of s) + 1)
 
-pub edition_is : (s : Stored) → AreNumbered s → edition_at no_marks (s.seq + 1) ≡ edition_of s
-edition_is s numbered = ap (λ n. edition_at no_marks (n + 1)) (sym (length_items s numbered))
+pub edition_is : (s : Stored) → AreNumbered s → edition_at (marks_of s.origin) (s.seq + 1) ≡ edition_of s
+edition_is s numbered = ap (λ n. edition_at (marks_of s.origin) (n + 1)) (sym (length_items s numbered))
 
 -- Whether an entry is whole isn't told by its fates.
 module _ (f g : ℕ → ℕ → Fate) (e : Submission) where
@@ -106,7 +106,7 @@ module _ (me : Party) (hubs : List Party) (s : Stored) (d : IsHistoryOf me hubs 
         let bytes : e.bytes ≡ k.bytes = ap (λ (x : Submission). x.bytes) k_is ∙ bytes_read k.bytes k.read in
         let key = key_in me hubs (items_of s) d.own all_rise e c in
         subst (λ x. settled_fates fates (brought (edition_of s) me hubs (items_of s) b) key ≡ Some (fate_in x12 me hubs items_now x (record { group = c.group; set = c.set }))) (sym bytes)
-        (fate_after (edition_of s) me hubs (items_of s) b r (is_newest (length (items_of s))) fates k.bytes e key all_rise k.at (submission_is k.bytes k.read ∙ ap (λ x. x ∷ []) (sym k_is)) refl (sym k.sender)
+        (fate_after (edition_of s) me hubs (items_of s) b r fates k.bytes e key all_rise k.at (submission_is k.bytes k.read ∙ ap (λ x. x ∷ []) (sym k_is)) refl (sym k.sender)
         (subst (λ x. fates key ≡ Some (fate_in x12 me hubs (items_of s) x (record { group = c.group; set = c.set }))) bytes fare))
 
     -- the rows after the evidence settled its sets

@@ -23,9 +23,10 @@ use Rattle.x12_outbound.specs.declared.schedule.Schedule.{Schedule}
 use Rattle.x12_outbound.specs.Settling.{Fates, targets_of}
 use Rattle.x12_outbound.specs.Hubs.{hubs_of}
 use Rattle.x12_profile.specs.declared.edition.Edition.{Edition}
-use Rattle.x12_profile.specs.Edition.{edition_at, no_marks}
+use Rattle.x12_profile.specs.Edition.{Marks, edition_at}
 use Rattle.x12_profile.specs.Interchange.{Bytes, book_for}
 use Rattle.x12_profile.specs.Laws.{Laws}
+use Rattle.x12_profile.specs.Marking.{marks_view}
 use Rattle.x12_profile.specs.X12.{x12, judged_by}
 use Rattle.x12_station.specs.declared.cached.Cached.{Cached}
 use Rattle.x12_station.specs.declared.replying.Draft.{Draft}
@@ -36,7 +37,7 @@ use Rattle.x12_station.specs.Durable.{IsHistoryOf}
 use Rattle.x12_station.specs.Entering.{IsHeld}
 use Rattle.x12_station.specs.working.Filing.{TakesFiling}
 use Rattle.x12_station.specs.working.Hearing.{IsHeard}
-use Rattle.x12_station.specs.Keeps.{IsReady, Caches}
+use Rattle.x12_station.specs.Keeps.{IsReady, Caches, cached_edition}
 use Rattle.x12_station.specs.Opened.{HoldsState}
 use Rattle.x12_station.specs.Plan.{Files, stored_after}
 use Rattle.x12_station.specs.Seen.{station_of}
@@ -57,8 +58,8 @@ unfolding x12
 plain_is p is = is
 
 module _ (m : Cached) (s : Stored) (ready : IsReady m) (was : IsHeld m s) (b : Bytes) (h : Header) (known : header_of b ≡ Ok h) (at : Moment) (d : Draft) (p : Plan)
-    (drafted : IsDraft (edition_at no_marks (m.seq + 1)) m.me (map agreement_view m.agreements.items) at m.book h b d)
-    (is_heard : IsHeard m.ledger.holds s h.sender (heard (judged_by (edition_at no_marks (m.seq + 1)) m.me (map agreement_view m.agreements.items) h b).verdict b) p)
+    (drafted : IsDraft (cached_edition m) m.me (map agreement_view m.agreements.items) at m.book h b d)
+    (is_heard : IsHeard m.ledger.holds s h.sender (heard (cached_edition m) (judged_by (cached_edition m) m.me (map agreement_view m.agreements.items) h b).verdict b) p)
     (laws : Laws x12) (posts : PostsWhatIsAccepted) (room : m.seq < 2 ^ 63 - 1) (new : filed_in s h.sender h.icn ≡ None) where
   abbrev v : OutboundLedger
   v = m.ledger.holds
@@ -67,21 +68,21 @@ module _ (m : Cached) (s : Stored) (ready : IsReady m) (was : IsHeld m s) (b : B
   r = reply_bytes d.reply
 
   -- what was weighed by memory was weighed by the records
-  edition_here : edition_at no_marks (m.seq + 1) ≡ edition_of s
-  edition_here = ap (λ n. edition_at no_marks (n + 1)) was.0.seq ∙ edition_is s was.1.sound.numbered
+  edition_here : cached_edition m ≡ edition_of s
+  edition_here = ap₂ (λ (k : Marks) (n : ℕ). edition_at k (n + 1)) was.0.marks was.0.seq ∙ edition_is s was.1.sound.numbered
 
-  heard_here : IsHeard v s h.sender (heard (judged_by (edition_of s) v.me s.agreements h b).verdict b) p
+  heard_here : IsHeard v s h.sender (heard (edition_of s) (judged_by (edition_of s) v.me s.agreements h b).verdict b) p
   heard_here =
-      subst (λ (ed : Edition). IsHeard v s h.sender (heard (judged_by ed v.me s.agreements h b).verdict b) p) edition_here
-      (subst (λ (me : Party). IsHeard v s h.sender (heard (judged_by (edition_at no_marks (m.seq + 1)) me s.agreements h b).verdict b) p) (sym ready.me)
-      (subst (λ (a : List TradingAgreement). IsHeard v s h.sender (heard (judged_by (edition_at no_marks (m.seq + 1)) m.me a h b).verdict b) p) was.0.agreements is_heard))
+      subst (λ (ed : Edition). IsHeard v s h.sender (heard ed (judged_by ed v.me s.agreements h b).verdict b) p) edition_here
+      (subst (λ (me : Party). IsHeard v s h.sender (heard (cached_edition m) (judged_by (cached_edition m) me s.agreements h b).verdict b) p) (sym ready.me)
+      (subst (λ (a : List TradingAgreement). IsHeard v s h.sender (heard (cached_edition m) (judged_by (cached_edition m) m.me a h b).verdict b) p) was.0.agreements is_heard))
 
   draft_here : IsDraft (edition_of s) v.me s.agreements at s.book h b d
   draft_here =
       subst (λ (ed : Edition). IsDraft ed v.me s.agreements at s.book h b d) edition_here
-      (subst (λ (me : Party). IsDraft (edition_at no_marks (m.seq + 1)) me s.agreements at s.book h b d) (sym ready.me)
-      (subst (λ (a : List TradingAgreement). IsDraft (edition_at no_marks (m.seq + 1)) m.me a at s.book h b d) was.0.agreements
-      (subst (λ (k : Numbers). IsDraft (edition_at no_marks (m.seq + 1)) m.me (map agreement_view m.agreements.items) at k h b d) was.0.book drafted)))
+      (subst (λ (me : Party). IsDraft (cached_edition m) me s.agreements at s.book h b d) (sym ready.me)
+      (subst (λ (a : List TradingAgreement). IsDraft (cached_edition m) m.me a at s.book h b d) was.0.agreements
+      (subst (λ (k : Numbers). IsDraft (cached_edition m) m.me (map agreement_view m.agreements.items) at k h b d) was.0.book drafted)))
 
   plain : IsTrue (x12.is_plain v.me)
   plain = subst (λ (q : Party). IsTrue (x12.is_plain q)) (sym ready.me) (plain_is m.me ready.plain)
@@ -126,6 +127,7 @@ module _ (m : Cached) (s : Stored) (ready : IsReady m) (was : IsHeld m s) (b : B
 
     keeps_there : Caches n filed_records
     keeps_there = record {
+      marks = ap marks_view taken.marks ∙ was.0.marks;
       book = taken.book;
       seq = taken.seq ∙ ap (λ (k : ℕ). k + 1) was.0.seq;
       agreements = ap (λ a. map agreement_view a.items) taken.agreements ∙ was.0.agreements;
@@ -175,9 +177,9 @@ used_left book v w fare held was =
     (all_from_map (λ (r : LedgerRow). (submission_of_entry w.me r.interchange, r.schedule)) (λ (q : Submission × Schedule). used_by book q.0) w.rows of_w)
 
 module _ (m n : Cached) (d : Draft) (p : Plan) (told : Counts) (ready : IsReady m) (b : Bytes) (h : Header) (known : header_of b ≡ Ok h) (at : Moment)
-    (drafted : IsDraft (edition_at no_marks (m.seq + 1)) m.me (map agreement_view m.agreements.items) at m.book h b d) (room : m.seq < 2 ^ 63 - 1) (taken : TakesFiling m n d.book p told) where
+    (drafted : IsDraft (cached_edition m) m.me (map agreement_view m.agreements.items) at m.book h b d) (room : m.seq < 2 ^ 63 - 1) (taken : TakesFiling m n d.book p told) where
   later : IsLater m.book d.book
-  later = book_later (edition_at no_marks (m.seq + 1)) m.me (map agreement_view m.agreements.items) b h known m.book d.book drafted.book at (reply_bytes d.reply) drafted.reply
+  later = book_later (cached_edition m) m.me (map agreement_view m.agreements.items) b h known m.book d.book drafted.book at (reply_bytes d.reply) drafted.reply
 
   pub ready_filed : IsReady n
   ready_filed = record {

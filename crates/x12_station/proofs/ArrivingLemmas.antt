@@ -101,7 +101,7 @@ module _ (m : Cached) where
 
     keeps_here : Caches after noted_records
     unfolding entries
-    keeps_here = record { book = refl; seq = held.0.seq; agreements = held.0.agreements; open_ones = held.0.open_ones }
+    keeps_here = record { marks = held.0.marks; book = refl; seq = held.0.seq; agreements = held.0.agreements; open_ones = held.0.open_ones }
 
     durable_here : IsHistoryOf m.ledger.holds.me m.ledger.holds.hubs noted_records
     durable_here = durable_numbered s after.book (subst (λ (x : Numbers). IsLater x after.book) held.0.book later) m.ledger.holds.me m.ledger.holds.hubs held.1
@@ -145,4 +145,4 @@ module _ (m : Cached) (s : Stored) (keeps : Caches m s) (at : Moment) (b : Bytes
       let was = station_of m.ledger.holds m.counts s in
       subst (λ (k : Numbers). HoldsStep (arrive_other x12 was at b (book_for k (record { reply = true; group = false }))) d) keeps.book
       (subst (λ o. HoldsStep o d) (sym (if_false (x12.is_silent b) _ _ loud))
-      (step_written taking (noted x12 was taking (x12.refusal 25 was.me at taking.interchange b)) d within (record { items = stay m.seq keeps.seq; agreements = refl; book = refl })))
+      (step_written taking (noted x12 was taking (x12.refusal 25 was.me at taking.interchange b)) d within (record { marks = refl; items = stay m.seq keeps.seq; agreements = refl; book = refl })))

@@ -14,7 +14,7 @@ use Rattle.x12_profile.specs.X12.{x12}
 use Rattle.x12_station.specs.History.{Item, Came, submissions, posted_by, postings}
 use Rattle.x12_station.specs.Plan.{Files, rows_settled, stored_after}
 use Rattle.x12_station.specs.Record.{IsWholeEntry}
-use Rattle.x12_station.specs.Stored.{Stored, StoredArrival, entries, row_of_entry, filed_in}
+use Rattle.x12_station.specs.Stored.{Stored, StoredArrival, entries, marks_of, row_of_entry, filed_in}
 use Rattle.x12_station.specs.Durable.{items_of, fared_entries, IsOwnSubmission, IsFiledRightly, WasAnswered, IsAnsweredRightly, IsHistoryOf}
 use Rattle.x12_station.proofs.ItemLemmas.{items_filed}
 use Rattle.x12_station.proofs.EntryLemmas.{entries_back, entries_whole, rise_in_order, same_heads, unnumbered}
@@ -86,7 +86,7 @@ module _ (me : Party) (hubs : List Party) (s : Stored) (d : IsHistoryOf me hubs 
       fates = entries_filed_are ∙ ap (fared_entries me hubs) (sym items_then);
       own = subst (λ items. All (IsOwnSubmission me) (submissions items)) (sym items_then) (own_now me hubs s d k.filed.bytes k.filed.reply);
       filed = All-push (λ (r : StoredArrival). IsFiledRightly r.filed) s.arrived _ d.filed rightly;
-      answered = All-push (IsAnsweredRightly me book) s.arrived _ (answered_later me s.book book later s.arrived d.answered)
+      answered = All-push (IsAnsweredRightly (marks_of s.origin) me book) s.arrived _ (answered_later (marks_of s.origin) me s.book book later s.arrived d.answered)
           ∣ subst (λ ed. WasAnswered ed me book k.filed) (sym (edition_is s d.sound.numbered)) answered ∣₁;
       posted =
           ap₂ (λ (x y : List _). x ++ y) d.posted (posts ∙ sym (append-nil (posted_by x12 (Came (edition_of s) k.filed.bytes k.filed.reply))))

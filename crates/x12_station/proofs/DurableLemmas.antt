@@ -17,11 +17,12 @@ use Rattle.x12_outbound.specs.Entry.{InterchangeRow, GroupRow, SetRow, IsSendabl
 use Rattle.x12_outbound.specs.Ledger.{AreInOrder}
 use Rattle.x12_profile.specs.Interchange.{Bytes}
 use Rattle.x12_profile.specs.X12.{x12, submission_in_bytes}
+use Rattle.x12_profile.specs.Edition.{Marks}
 use Rattle.x12_station.specs.Durable.{IsHistoryOf, IsAnsweredRightly, IsOwnSubmission, fared_entry, fared_entries, items_of}
 use Rattle.x12_station.specs.History.{Item, Submitted, submissions, posted_by, postings}
 use Rattle.x12_station.specs.Plan.{Submits, Agrees, TakesNumbers, stored_after}
 use Rattle.x12_station.specs.Record.{IsWholeEntry}
-use Rattle.x12_station.specs.Stored.{Stored, StoredArrival, HasSets, IsNumberedBy, IsSound, entries}
+use Rattle.x12_station.specs.Stored.{Stored, StoredArrival, HasSets, IsNumberedBy, IsSound, entries, marks_of}
 use Rattle.x12_station.proofs.AgreedLemmas.{agreed_kept, agreed_once}
 use Rattle.x12_station.proofs.EntryLemmas.{entries_submitted, rows_submitted}
 use Rattle.x12_station.proofs.ItemLemmas.{items_submitted, submissions-append}
@@ -46,8 +47,8 @@ used_later old new later es used = All-weaker (IsNumberedBy old) (IsNumberedBy n
 }) es used
 
 -- what was answered was so under later numbers too
-pub answered_later : (me : Party) (old new : Numbers) → IsLater old new → (rs : List StoredArrival) → All (IsAnsweredRightly me old) rs → All (IsAnsweredRightly me new) rs
-answered_later me old new later rs answered = All-weaker (IsAnsweredRightly me old) (IsAnsweredRightly me new) (λ r it. ∥∥₁_map it (λ was. record {
+pub answered_later : (marks : Marks) (me : Party) (old new : Numbers) → IsLater old new → (rs : List StoredArrival) → All (IsAnsweredRightly marks me old) rs → All (IsAnsweredRightly marks me new) rs
+answered_later marks me old new later rs answered = All-weaker (IsAnsweredRightly marks me old) (IsAnsweredRightly marks me new) (λ r it. ∥∥₁_map it (λ was. record {
   agreements = was.agreements;
   at = was.at;
   numbers = was.numbers;
@@ -83,7 +84,7 @@ module _ (s : Stored) (book : Numbers) (later : IsLater s.book book) where
     fates = was.fates;
     own = was.own;
     filed = was.filed;
-    answered = answered_later me s.book book later s.arrived was.answered;
+    answered = answered_later (marks_of s.origin) me s.book book later s.arrived was.answered;
     posted = was.posted;
   }
 
@@ -113,7 +114,7 @@ module _ (s : Stored) (book : Numbers) (later : IsLater s.book book) where
     fates = was.fates;
     own = was.own;
     filed = was.filed;
-    answered = answered_later me s.book book later s.arrived was.answered;
+    answered = answered_later (marks_of s.origin) me s.book book later s.arrived was.answered;
     posted = was.posted;
   }
 
@@ -273,6 +274,6 @@ module _ (me : Party) (hubs : List Party) (s : Stored) (was : IsHistoryOf me hub
     own = subst (λ items. All (IsOwnSubmission me) (submissions items)) (sym items_more)
         (subst (All (IsOwnSubmission me)) (sym (submissions-append (items_of s) (Submitted x ∷ []))) (All-push (IsOwnSubmission me) (submissions (items_of s)) x was.own may.own));
     filed = was.filed;
-    answered = answered_later me s.book new (is_later me s.book new x y may) s.arrived was.answered;
+    answered = answered_later (marks_of s.origin) me s.book new (is_later me s.book new x y may) s.arrived was.answered;
     posted = was.posted ∙ sym (ap (postings x12) items_more ∙ flat_map-append (posted_by x12) (items_of s) (Submitted x ∷ []) ∙ append-nil (postings x12 (items_of s)));
   }

@@ -29,7 +29,7 @@ use Rattle.x12_station.specs.Record.{HasNoneOut, IsWholeEntry}
 use Rattle.x12_station.specs.Seen.{sending_of, station_of}
 use Rattle.x12_station.specs.Station.{Station}
 use Rattle.x12_station.specs.StationStep.{entered as station_after}
-use Rattle.x12_station.specs.Stored.{Stored, IsNumberedBy, IsSound, entries}
+use Rattle.x12_station.specs.Stored.{Stored, IsNumberedBy, IsSound, entries, marks_of}
 use Rattle.x12_station.proofs.OpenedLemmas.{durable_of}
 use Rattle.x12_station.proofs.DurableLemmas.{IsNewSubmission, after_submission, durable_submitted, entries_more, is_after, is_later, is_numbered, is_sendable, is_whole, items_more, sound_submitted}
 use Rattle.x12_outbound.proofs.SendableLemmas.{groups_filled}
@@ -110,8 +110,8 @@ unfolding pending_entry
 pending_icn y = refl
 
 -- two stations whose parts are the same
-same_station : (a b : Station) → a.me ≡ b.me → a.hubs ≡ b.hubs → a.items ≡ b.items → a.agreements ≡ b.agreements → a.book ≡ b.book → a.tick ≡ b.tick → a.sendings ≡ b.sendings → a.counts ≡ b.counts → a ≡ b
-same_station a b p q r t u v w z = λ i. record { me = p i; hubs = q i; items = r i; agreements = t i; book = u i; tick = v i; sendings = w i; counts = z i }
+same_station : (a b : Station) → a.me ≡ b.me → a.hubs ≡ b.hubs → a.marks ≡ b.marks → a.items ≡ b.items → a.agreements ≡ b.agreements → a.book ≡ b.book → a.tick ≡ b.tick → a.sendings ≡ b.sendings → a.counts ≡ b.counts → a ≡ b
+same_station a b p q k r t u v w z = λ i. record { me = p i; hubs = q i; marks = k i; items = r i; agreements = t i; book = u i; tick = v i; sendings = w i; counts = z i }
 
 -- The plan, and what it asks.
 
@@ -164,6 +164,7 @@ module _ (m : Cached) (ready : IsReady m) (book : Numbers) (e : InterchangeRow) 
     -- and it holds the station that the definition has then
     pub holds_planned : HoldsState (station_after x12 (station_of m.ledger.holds m.counts s) e.bytes) (stored_after (plan_of m book e) s)
     holds_planned = record {
+      marks = refl;
       items = ap items_of (ap₂ (λ n z. stored_after (record { book = book; seq = n + 1; change = Submits z }) s) held.0.seq (sym known.entry))
           ∙ items_more m.ledger.holds.me m.ledger.holds.hubs s held.1 book e.bytes y new_planned room_planned;
       agreements = refl;
@@ -221,6 +222,7 @@ module _ (m : Cached) (ready : IsReady m) (book : Numbers) (e : InterchangeRow) 
       alloc = m.alloc;
       me = m.me;
       hubs = m.hubs;
+      marks = m.marks;
       book = book;
       seq = m.seq + 1;
       agreements = m.agreements;
@@ -270,6 +272,7 @@ module _ (m : Cached) (ready : IsReady m) (book : Numbers) (e : InterchangeRow) 
 
       pub keeps_entered : Caches entered_memory t
       keeps_entered = record {
+        marks = held.0.marks ∙ ap (λ (z : Stored). marks_of z.origin) (sym is);
         book = ap (λ (z : Stored). z.book) (sym is);
         seq = ap (λ (z : Stored). z.seq) (sym is);
         agreements = held.0.agreements ∙ ap (λ (z : Stored). z.agreements) (sym is);
@@ -286,7 +289,7 @@ module _ (m : Cached) (ready : IsReady m) (book : Numbers) (e : InterchangeRow) 
       pub state_entered : station_of l m.counts t ≡ station_after x12 (station_of m.ledger.holds m.counts s) e.bytes
       state_entered =
           same_station (station_of l m.counts t) (station_after x12 (station_of m.ledger.holds m.counts s) e.bytes)
-          me_is hubs_are items_entered (ap (λ (z : Stored). z.agreements) is)
+          me_is hubs_are (ap (λ (z : Stored). marks_of z.origin) is) items_entered (ap (λ (z : Stored). z.agreements) is)
           (ap (λ (z : Stored). z.book) is ∙ may.uses.book ∙ ap (λ b. book_after b (x12.number e.bytes ∷ []) (x12.groups e.bytes)) held.0.book)
           tick_is
           (ap (map sending_of) rows_are ∙ map-append sending_of m.ledger.holds.rows (row ∷ [])

@@ -1,13 +1,13 @@
 -- The fate of a submitted set once one arrival more is in the history: a pending set has the fate that
 -- the arrival tells first, and any other is as it was.
-use Rattle.std.specs.Prelude.{◌≡◌, ℕ, ◌+◌, nat_le, List, [], ◌∷◌, ◌++◌, Bool, true, false, ◌&&◌, ◌==◌, if◌then◌else◌, flat_map, Option, Some, None, Contains, refl}
+use Rattle.std.specs.Prelude.{◌≡◌, ℕ, List, [], ◌∷◌, ◌++◌, Bool, true, false, ◌&&◌, ◌==◌, if◌then◌else◌, flat_map, Option, Some, None, Contains, refl}
 use Rattle.std.specs.List.{AllByRecursion}
 use mathlib.Core.Path.{sym, ap, ap₂, subst, ◌∙◌}
-use native.Mathlib.Omega.{arith}
-use Rattle.std.proofs.lemmas.Bool.Decides.{eqb_tells, nat_tests}
+use Rattle.std.proofs.lemmas.Bool.Decides.{eqb_tells}
 use mathlib.Core.Logic.{inl, inr}
 use Rattle.std.proofs.lemmas.List.{append-nil}
 use Rattle.x12_envelopes.specs.declared.party.Party.{Party}
+use Rattle.x12_acks.specs.Answer.{Acknowledgment}
 use Rattle.x12_acks.specs.Evidence.{Evidence as Piece, tells, unmatched, FinalFate, accepted, noted, rejected, evidence_of}
 use Rattle.x12_acks.specs.Key.{is_same_key}
 use Rattle.x12_acks.specs.Named.{SubmissionsRise, IsOwn}
@@ -20,16 +20,16 @@ use Rattle.x12_outbound.specs.FirstEvidence.{first_about, fate_by_first}
 use Rattle.x12_outbound.specs.Settling.{Fates, settled_fates}
 use Rattle.x12_outbound.proofs.FirstEvidenceLemmas.{fate_of_each}
 use Rattle.x12_profile.specs.declared.edition.Edition.{Edition}
-use Rattle.x12_profile.specs.declared.edition.Edition.TheVariants.{First, Second}
-use Rattle.x12_profile.specs.Edition.{edition_at, no_marks}
 use Rattle.x12_profile.specs.Interchange.{Bytes, PlaceOfSet, PlacedEvidence, is_place}
 use Rattle.x12_profile.specs.Reading.{answers_in}
 use Rattle.x12_profile.specs.X12.{x12, submission_in_bytes, told_by_piece as told_by_piece, pieces_read}
 use Rattle.x12_profile.proofs.FieldLemmas as field
 use Rattle.x12_acks.proofs.ReplyGroupLemmas.{same_party_itself}
 use Rattle.x12_station.specs.History.{Item, Came, submissions, first_told, told, told_in, fate_in}
+use Rattle.x12_station.specs.Older.{answers_as_read}
 use Rattle.x12_station.proofs.HistoryLemmas.{told_append, in_submissions}
 use Rattle.x12_station.proofs.ListLemmas.{flat_map_contains}
+use Rattle.x12_station.proofs.OlderLemmas.{evidence_as_read}
 use Rattle.x12_numbers.proofs.Shelf.{eq_itself, contains_head}
 
 -- Evidence by place.
@@ -103,21 +103,16 @@ first_told_is x k (unmatched ∷ es) own icn sender = first_told_is x k es own.1
 abbrev pub brought : Edition → Party → List Party → List Item → Bytes → List Piece
 brought ed me hubs items b = if x12.refuses ed me b then [] else x12.pieces ed hubs (submissions items) b
 
--- what comes next to records that have no older arrivals is read by the newest edition
-pub is_newest : (n : ℕ) → edition_at no_marks (n + 1) ≡ Second
-unfolding edition_at
-is_newest n = ap (λ b. if b then First else Second) (behind n)
-  where
-    behind : (n : ℕ) → nat_le (n + 1) 0 ≡ false
-    behind n = grind (arith, nat_tests)
-
-pub pieces_are : (ed : Edition) → ed ≡ Second → (hubs : List Party) (xs : List Bytes) (b : Bytes) → x12.pieces ed hubs xs b ≡ evidence_of hubs (flat_map submission_in_bytes xs) (x12.sender b) (answers_in b)
+pub pieces_are : (ed : Edition) (hubs : List Party) (xs : List Bytes) (b : Bytes) → x12.pieces ed hubs xs b ≡ evidence_of hubs (flat_map submission_in_bytes xs) (x12.sender b) (answers_as_read ed (answers_in b))
 unfolding x12
-pieces_are ed newest hubs xs b = ap (λ z. pieces_read z (evidence_of hubs (flat_map submission_in_bytes xs) (x12.sender b) (answers_in b))) newest
+pieces_are ed hubs xs b = evidence_as_read hubs (flat_map submission_in_bytes xs) (x12.sender b) ed (answers_in b)
 
 module _ (ed : Edition) (me : Party) (hubs : List Party) (items : List Item) (b : Bytes) (r : Option Bytes) where
   abbrev now : List Item
   now = items ++ Came ed b r ∷ []
+
+  abbrev answers : List Acknowledgment
+  answers = answers_as_read ed (answers_in b)
 
   -- the fate after the arrival, by what it tells
   fate_now : (x : Bytes) (k : PlaceOfSet) → Contains (submissions items) x → fate_in x12 me hubs now x k ≡ fate_then (fate_in x12 me hubs items x k) (first_told k (told x12 me hubs x (Came ed b r)))
@@ -132,27 +127,28 @@ module _ (ed : Edition) (me : Party) (hubs : List Party) (items : List Item) (b 
   told_nothing Rejected = refl
 
   -- of a set of x, where sets fare by the history: the evidence for all settles it as the arrival tells
-  pub fate_after : ed ≡ Second → (fates : Fates) (x : Bytes) (e : Submission) (k : TransactionSetKey)
+  pub fate_after : (fates : Fates) (x : Bytes) (e : Submission) (k : TransactionSetKey)
       → SubmissionsRise (flat_map submission_in_bytes (submissions items)) → Contains (submissions items) x → submission_in_bytes x ≡ e ∷ []
       → k.icn ≡ e.icn → k.sender ≡ e.sender → fates k ≡ Some (fate_in x12 me hubs items x (place_of_key k))
       → settled_fates fates (brought ed me hubs items b) k ≡ Some (fate_in x12 me hubs now x (place_of_key k))
   unfolding settled_fates
-  fate_after newest fates x e k rise at is icn sender fare = by (x12.refuses ed me b) refl
+  fate_after fates x e k rise at is icn sender fare = by (x12.refuses ed me b) refl
     where
       among : Contains (flat_map submission_in_bytes (submissions items)) e
       among = flat_map_contains submission_in_bytes (submissions items) x e at (subst (λ l. Contains l e) (sym is) (contains_head e []))
 
-      tells_it : first_told (place_of_key k) (x12.evidence ed hubs b x) ≡ as_told (first_about k (evidence_of hubs (e ∷ []) (x12.sender b) (answers_in b)))
+      tells_it : first_told (place_of_key k) (x12.evidence ed hubs b x) ≡ as_told (first_about k (evidence_of hubs (e ∷ []) (x12.sender b) answers))
       tells_it =
           ap (first_told (place_of_key k)) (field.evidence_is ed hubs b x
-          ∙ ap₂ (λ (z : Edition) (l : List Submission). flat_map told_by_piece (pieces_read z (evidence_of hubs (l ++ []) (x12.sender b) (answers_in b)))) newest is)
-          ∙ first_told_is e k (evidence_of hubs (e ∷ []) (x12.sender b) (answers_in b)) (evidence_of_each.alone hubs (x12.sender b) e (answers_in b)) icn sender
+          ∙ ap (λ (l : List Submission). flat_map told_by_piece (pieces_read ed (evidence_of hubs (l ++ []) (x12.sender b) (answers_in b)))) is
+          ∙ ap (flat_map told_by_piece) (evidence_as_read hubs (e ∷ []) (x12.sender b) ed (answers_in b)))
+          ∙ first_told_is e k (evidence_of hubs (e ∷ []) (x12.sender b) answers) (evidence_of_each.alone hubs (x12.sender b) e answers) icn sender
 
       by : (t : Bool) → x12.refuses ed me b ≡ t → settled_fates fates (if x12.refuses ed me b then [] else x12.pieces ed hubs (submissions items) b) k ≡ Some (fate_in x12 me hubs now x (place_of_key k))
       by true no_one = rw no_one (fare ∙ ap Some (sym (fate_now x (place_of_key k) at ∙ rw no_one (told_nothing (fate_in x12 me hubs items x (place_of_key k))))))
       by false taken =
-          rw taken (ap (λ es. settled_fates fates es k) (pieces_are ed newest hubs (submissions items) b)
-          ∙ fate_of_each evidence_of_each fates hubs (x12.sender b) (flat_map submission_in_bytes (submissions items)) e (answers_in b) k rise among icn
-          ∙ ap (fate_by_first (first_about k (evidence_of hubs (e ∷ []) (x12.sender b) (answers_in b)))) fare
-          ∙ settled_then (first_about k (evidence_of hubs (e ∷ []) (x12.sender b) (answers_in b))) (fate_in x12 me hubs items x (place_of_key k))
+          rw taken (ap (λ es. settled_fates fates es k) (pieces_are ed hubs (submissions items) b)
+          ∙ fate_of_each evidence_of_each fates hubs (x12.sender b) (flat_map submission_in_bytes (submissions items)) e answers k rise among icn
+          ∙ ap (fate_by_first (first_about k (evidence_of hubs (e ∷ []) (x12.sender b) answers))) fare
+          ∙ settled_then (first_about k (evidence_of hubs (e ∷ []) (x12.sender b) answers)) (fate_in x12 me hubs items x (place_of_key k))
           ∙ ap Some (ap (fate_then (fate_in x12 me hubs items x (place_of_key k))) (sym tells_it) ∙ sym (fate_now x (place_of_key k) at ∙ rw taken refl)))

@@ -1,5 +1,5 @@
 -- One commit of a new arrival: with the plan's targets the records stay a station's, memory keeps what is open, and the state is the step's.
-use Rattle.std.specs.Prelude.{length, ◌≡◌, ℕ, ◌+◌, ◌-◌, ◌^◌, ◌≤◌, min, List, [], Bool, true, false, if◌then◌else◌, map, Option, None, Ok, IsTrue, refl, filter}
+use Rattle.std.specs.Prelude.{◌≡◌, ℕ, ◌+◌, ◌-◌, ◌^◌, ◌≤◌, min, List, [], Bool, true, false, if◌then◌else◌, map, Option, None, Ok, IsTrue, refl, filter}
 use mathlib.Core.Path.{sym, ap, ap₂, subst, ◌∙◌}
 use native.Mathlib.Omega.{arith}
 use Rattle.x12_numbers.specs.Book.{Numbers}
@@ -27,46 +27,51 @@ use Rattle.x12_station.specs.working.Hearing.{IsHeard}
 use Rattle.x12_station.specs.History.{Item}
 use Rattle.x12_station.specs.Key.{own_fates}
 use Rattle.x12_station.specs.Opened.{HoldsState}
+use Rattle.x12_station.specs.Older.{answers_as_read}
 use Rattle.x12_station.specs.Plan.{Files, stored_after}
 use Rattle.x12_station.specs.Schedule.{Sending}
 use Rattle.x12_station.specs.Station.{Station}
 use Rattle.x12_station.specs.Seen.{sending_of, station_of}
 use Rattle.x12_station.specs.StationStep.{filed_now}
-use Rattle.x12_station.specs.Stored.{Stored, open_entries, filed_in}
+use Rattle.x12_station.specs.Stored.{Stored, marks_of, open_entries, filed_in}
 use Rattle.x12_station.proofs.ArrivedLemmas.{edition_of, history_fates, items_now}
 use Rattle.x12_station.proofs.DurableFiledLemmas.{durable_filed, entries_filed_are, filed_with, items_then}
-use Rattle.x12_station.proofs.FateLemmas.{brought, is_newest}
+use Rattle.x12_station.proofs.FateLemmas.{brought}
 use Rattle.x12_station.proofs.HearingLemmas.{same_unclear}
 use Rattle.x12_station.proofs.HeldLemmas.{left_open, sends_still}
+use Rattle.x12_station.proofs.OlderLemmas.{unclear_as_read}
 use Rattle.x12_station.proofs.PieceLemmas.{pieces_told, targets_told, findings_told}
 use Rattle.x12_station.proofs.StepLemmas.{refused_is, brought_is, book_later, filing_posts, filing_rightly, filing_answered}
 use Rattle.x12_station.proofs.TargetLemmas.{targets_by}
 
 module _ (v : OutboundLedger) (counts : Counts) (s : Stored) (d : IsHistoryOf v.me v.hubs s) (near_are : map (λ r. r.interchange) v.rows ≡ open_entries s)
-    (b : Bytes) (h : Header) (known : header_of b ≡ Ok h) (p : Plan) (is_heard : IsHeard v s h.sender (heard (judged_by (edition_of s) v.me s.agreements h b).verdict b) p) where
+    (b : Bytes) (h : Header) (known : header_of b ≡ Ok h) (p : Plan) (is_heard : IsHeard v s h.sender (heard (edition_of s) (judged_by (edition_of s) v.me s.agreements h b).verdict b) p) where
   abbrev items : List Item
   items = items_of s
 
   -- the plan's evidence is what the arrival brings
   pub evidence_brought : evidence_in p.pieces ≡ brought (edition_of s) v.me v.hubs items b
   evidence_brought =
-      pieces_told v is_heard.closed s d near_are is_heard.me h.sender (heard (judged_by (edition_of s) v.me s.agreements h b).verdict b) is_heard.found p.pieces is_heard.evidence is_heard.pieces
-      ∙ sym (brought_is (edition_of s) v.me s.agreements b h known (is_newest (length (items_of s))) v.hubs items)
+      pieces_told v is_heard.closed s d near_are is_heard.me h.sender (heard (edition_of s) (judged_by (edition_of s) v.me s.agreements h b).verdict b) is_heard.found p.pieces is_heard.evidence is_heard.pieces
+      ∙ sym (brought_is (edition_of s) v.me s.agreements b h known v.hubs items)
 
   -- and its targets are what the history settles
   pub targets_brought : targets_of p.pieces ≡ targets_by (history_fates v.me v.hubs s d) (brought (edition_of s) v.me v.hubs items b)
   targets_brought =
-      targets_told v is_heard.closed s d near_are is_heard.me h.sender (heard (judged_by (edition_of s) v.me s.agreements h b).verdict b) is_heard.found p.pieces is_heard.evidence is_heard.pieces
-      ∙ ap (targets_by (history_fates v.me v.hubs s d)) (sym (brought_is (edition_of s) v.me s.agreements b h known (is_newest (length (items_of s))) v.hubs items))
+      targets_told v is_heard.closed s d near_are is_heard.me h.sender (heard (edition_of s) (judged_by (edition_of s) v.me s.agreements h b).verdict b) is_heard.found p.pieces is_heard.evidence is_heard.pieces
+      ∙ ap (targets_by (history_fates v.me v.hubs s d)) (sym (brought_is (edition_of s) v.me s.agreements b h known v.hubs items))
 
   findings_brought : findings_in p.pieces ≡ findings (own_fates x12 v.me v.hubs items) (brought (edition_of s) v.me v.hubs items b)
   findings_brought =
-      findings_told v is_heard.closed s d near_are is_heard.me h.sender (heard (judged_by (edition_of s) v.me s.agreements h b).verdict b) is_heard.found p.pieces is_heard.evidence is_heard.pieces
-      ∙ ap (findings (own_fates x12 v.me v.hubs items)) (sym (brought_is (edition_of s) v.me s.agreements b h known (is_newest (length (items_of s))) v.hubs items))
+      findings_told v is_heard.closed s d near_are is_heard.me h.sender (heard (edition_of s) (judged_by (edition_of s) v.me s.agreements h b).verdict b) is_heard.found p.pieces is_heard.evidence is_heard.pieces
+      ∙ ap (findings (own_fates x12 v.me v.hubs items)) (sym (brought_is (edition_of s) v.me s.agreements b h known v.hubs items))
 
-  unclear_read : unclear_answers (answers_in b) ≡ x12.unclear b
+  unclear_in : unclear_answers (answers_in b) ≡ x12.unclear b
   unfolding unclear_answers x12
-  unclear_read = same_unclear (answers_in b)
+  unclear_in = same_unclear (answers_in b)
+
+  unclear_read : unclear_answers (answers_as_read (edition_of s) (answers_in b)) ≡ x12.unclear b
+  unclear_read = unclear_as_read (edition_of s) (answers_in b) ∙ unclear_in
 
   no_unclear : unclear_answers [] ≡ 0
   unfolding unclear_answers
@@ -75,7 +80,7 @@ module _ (v : OutboundLedger) (counts : Counts) (s : Stored) (d : IsHistoryOf v.
   unclear_is : p.unclear ≡ (if x12.refuses (edition_of s) v.me b then 0 else x12.unclear b)
   unclear_is = is_heard.unclear ∙ by (x12.refuses (edition_of s) v.me b) refl
     where
-      by : (t : Bool) → x12.refuses (edition_of s) v.me b ≡ t → unclear_answers (if is_refused (judged_by (edition_of s) v.me s.agreements h b).verdict then [] else answers_in b) ≡ (if x12.refuses (edition_of s) v.me b then 0 else x12.unclear b)
+      by : (t : Bool) → x12.refuses (edition_of s) v.me b ≡ t → unclear_answers (if is_refused (judged_by (edition_of s) v.me s.agreements h b).verdict then [] else answers_as_read (edition_of s) (answers_in b)) ≡ (if x12.refuses (edition_of s) v.me b then 0 else x12.unclear b)
       by true is = rw (sym (refused_is (edition_of s) v.me s.agreements b h known) ∙ is, is) no_unclear
       by false is = rw (sym (refused_is (edition_of s) v.me s.agreements b h known) ∙ is, is) unclear_read
 
@@ -140,7 +145,7 @@ module _ (v : OutboundLedger) (counts : Counts) (s : Stored) (d : IsHistoryOf v.
 
     -- they hold the station that the definition has then
     pub holds_after : HoldsState (filed_now x12 (station_of v counts s) b r book) after
-    holds_after = record { items = ap items_of after_is ∙ items_then v.me v.hubs s d kept book; agreements = refl; book = refl }
+    holds_after = record { marks = refl; items = ap items_of after_is ∙ items_then v.me v.hubs s d kept book; agreements = refl; book = refl }
 
     -- the ledger once it settled
     module _ (w : OutboundLedger) (held : HoldsWhatIsOpen v w (settled_fates (fates v) (evidence_in p.pieces))) (none_out : NoneIsOut w) where
@@ -158,4 +163,4 @@ module _ (v : OutboundLedger) (counts : Counts) (s : Stored) (d : IsHistoryOf v.
           ∙ ap₂ (station_by v.me v.hubs (items_now v.me v.hubs s d b r) v.tick) (sends_still v w s d near_are b r holds none_out counts) more_is
         where
           station_by : Party → List Party → List Item → ℕ → List Sending → Counts → Station
-          station_by m hs is t q c = record { me = m; hubs = hs; items = is; agreements = s.agreements; book = book; tick = t; sendings = q; counts = c }
+          station_by m hs is t q c = record { me = m; hubs = hs; marks = marks_of s.origin; items = is; agreements = s.agreements; book = book; tick = t; sendings = q; counts = c }

@@ -6,7 +6,7 @@ use Rattle.x12_inbound.specs.declared.filing.Filed.{Filed}
 use Rattle.x12_inbound.specs.Filing.{FiledInterchange, filed_under, reply_bytes}
 use Rattle.x12_outbound.proofs.SearchLemmas.{Found}
 use Rattle.x12_station.specs.declared.arrivals.NumberedArrival.{NumberedArrival}
-use Rattle.x12_profile.specs.Edition.{edition_at, no_marks}
+use Rattle.x12_profile.specs.Edition.{Marks, edition_at}
 use Rattle.x12_station.specs.Durable.{item_of_arrival}
 use Rattle.x12_station.specs.History.{Submitted, Came}
 use Rattle.x12_station.specs.Memory.{ArrivalKey, NumberedRow, SeqsRise, arrival_view}
@@ -36,13 +36,13 @@ pub submissions_rise : (s : Stored) (ns : List NumberedRow) → s.submitted ≡ 
 submissions_rise s ns same numbered = pairs_from_map row_in (λ r q. r.seq < q.seq) ns (subst (λ rs. AllPairs (λ r q. r.seq < q.seq) rs) same numbered.submitted)
 
 -- an arrival as the history has it
-module _ (es : List (ArrivalKey × NumberedArrival)) (seq i : ℕ) (there : find (λ (r : StoredArrival). r.seq == seq) (map arrival_view es) ≡ slice_get (map arrival_view es) i) where
+module _ (marks : Marks) (es : List (ArrivalKey × NumberedArrival)) (seq i : ℕ) (there : find (λ (r : StoredArrival). r.seq == seq) (map arrival_view es) ≡ slice_get (map arrival_view es) i) where
   -- the arrival at the index, copied
   pub arrived_found : (e : ArrivalKey × NumberedArrival) (f : Filed) → slice_get es i ≡ Some e → ((p : Party) (n : ℕ) → filed_under p n f ≡ filed_under p n e.1.filed)
-      → Some (Came (edition_at no_marks seq) f.bytes.items (reply_bytes f.reply)) ≡ option_map (item_of_arrival seq) (find (λ r. r.seq == seq) (map arrival_view es))
+      → Some (Came (edition_at marks seq) f.bytes.items (reply_bytes f.reply)) ≡ option_map (item_of_arrival marks seq) (find (λ r. r.seq == seq) (map arrival_view es))
   arrived_found e f at same =
-      ap (λ (x : FiledInterchange). Some (Came (edition_at no_marks seq) x.bytes x.reply)) (same (record { qualifier = e.0.0; id = e.0.1 }) e.0.2)
-      ∙ sym (ap (option_map (item_of_arrival seq)) (there ∙ slice_get-map arrival_view es i ∙ ap (option_map arrival_view) at))
+      ap (λ (x : FiledInterchange). Some (Came (edition_at marks seq) x.bytes x.reply)) (same (record { qualifier = e.0.0; id = e.0.1 }) e.0.2)
+      ∙ sym (ap (option_map (item_of_arrival marks seq)) (there ∙ slice_get-map arrival_view es i ∙ ap (option_map arrival_view) at))
 
-  pub none_arrived : slice_get es i ≡ None → None ≡ option_map (item_of_arrival seq) (find (λ r. r.seq == seq) (map arrival_view es))
-  none_arrived past = sym (ap (option_map (item_of_arrival seq)) (there ∙ slice_get-map arrival_view es i ∙ ap (option_map arrival_view) past))
+  pub none_arrived : slice_get es i ≡ None → None ≡ option_map (item_of_arrival marks seq) (find (λ r. r.seq == seq) (map arrival_view es))
+  none_arrived past = sym (ap (option_map (item_of_arrival marks seq)) (there ∙ slice_get-map arrival_view es i ∙ ap (option_map arrival_view) past))

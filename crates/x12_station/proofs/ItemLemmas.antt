@@ -21,12 +21,12 @@ use Rattle.x12_outbound.specs.Entry.{InterchangeRow}
 use Rattle.x12_inbound.specs.Arrival.{Filing}
 use Rattle.x12_inbound.specs.Order.{interchange}
 use Rattle.x12_inbound.specs.Register.{found_in}
-use Rattle.x12_profile.specs.Edition.{edition_at, no_marks}
+use Rattle.x12_profile.specs.Edition.{Marks, edition_at}
 use Rattle.x12_profile.specs.X12.{x12}
 use Rattle.x12_station.specs.Durable.{IsFiledRightly, item_at, item_of_arrival, items_of}
 use Rattle.x12_station.specs.History.{Item, Submitted, Came, KeptArrival, submissions, arrivals, filed}
 use Rattle.x12_station.specs.Plan.{Submits, Files, Agrees, TakesNumbers, stored_after}
-use Rattle.x12_station.specs.Stored.{Stored, StoredSubmission, StoredArrival, AreNumbered, seqs, filed_in, row_of_entry}
+use Rattle.x12_station.specs.Stored.{Stored, StoredSubmission, marks_of, StoredArrival, AreNumbered, seqs, filed_in, row_of_entry}
 use Rattle.x12_station.proofs.SeqLemmas.{all_front, all_behind, all_of_range, find_pushed, find_kept, flat_map_range, none_below, picked, range_more, under}
 use Rattle.x12_numbers.proofs.Shelf.{all_from_map, differs_from_less, eq_itself}
 
@@ -105,35 +105,35 @@ filed_came (Came ed b r ∷ items) partner n = by (is_same_party (x12.sender b) 
 abbrev pub filed_of_row : StoredArrival → KeptArrival
 filed_of_row r = record { body = r.filed.bytes; reply = r.filed.reply }
 
-abbrev item_of : ℕ → Option StoredSubmission → Option StoredArrival → Option Item
-item_of n a b = option_or (option_map (λ r. Submitted r.bytes) a) (option_map (item_of_arrival n) b)
+abbrev item_of : Marks → ℕ → Option StoredSubmission → Option StoredArrival → Option Item
+item_of marks n a b = option_or (option_map (λ r. Submitted r.bytes) a) (option_map (item_of_arrival marks n) b)
 
-submitted_one : (n : ℕ) (a : Option StoredSubmission) (b : Option StoredArrival) → submissions (option_to_list (item_of n a b)) ≡ map (λ r. r.bytes) (option_to_list a)
-submitted_one n None None = refl
-submitted_one n None (Some b) = refl
-submitted_one n (Some a) b = refl
+submitted_one : (k : Marks) (n : ℕ) (a : Option StoredSubmission) (b : Option StoredArrival) → submissions (option_to_list (item_of k n a b)) ≡ map (λ r. r.bytes) (option_to_list a)
+submitted_one k n None None = refl
+submitted_one k n None (Some b) = refl
+submitted_one k n (Some a) b = refl
 
-came_one : (n : ℕ) (a : Option StoredSubmission) (b : Option StoredArrival) → (a ≡ None) ⊎ (b ≡ None) → came (option_to_list (item_of n a b)) ≡ map filed_of_row (option_to_list b)
-came_one n None None one = refl
-came_one n None (Some b) one = refl
-came_one n (Some a) None one = refl
-came_one n (Some a) (Some b) (inl e) = absurd cc
-came_one n (Some a) (Some b) (inr e) = absurd cc
+came_one : (k : Marks) (n : ℕ) (a : Option StoredSubmission) (b : Option StoredArrival) → (a ≡ None) ⊎ (b ≡ None) → came (option_to_list (item_of k n a b)) ≡ map filed_of_row (option_to_list b)
+came_one k n None None one = refl
+came_one k n None (Some b) one = refl
+came_one k n (Some a) None one = refl
+came_one k n (Some a) (Some b) (inl e) = absurd cc
+came_one k n (Some a) (Some b) (inr e) = absurd cc
 
-submitted_each : (f : ℕ → Option StoredSubmission) (g : ℕ → Option StoredArrival) (ns : List ℕ)
-    → submissions (flat_map (λ n. option_to_list (item_of n (f n) (g n))) ns) ≡ map (λ r. r.bytes) (flat_map (λ n. option_to_list (f n)) ns)
-submitted_each f g [] = refl
-submitted_each f g (n ∷ ns) =
-    submissions-append (option_to_list (item_of n (f n) (g n))) (flat_map (λ n. option_to_list (item_of n (f n) (g n))) ns)
-    ∙ ap₂ (λ a b. a ++ b) (submitted_one n (f n) (g n)) (submitted_each f g ns)
+submitted_each : (k : Marks) (f : ℕ → Option StoredSubmission) (g : ℕ → Option StoredArrival) (ns : List ℕ)
+    → submissions (flat_map (λ n. option_to_list (item_of k n (f n) (g n))) ns) ≡ map (λ r. r.bytes) (flat_map (λ n. option_to_list (f n)) ns)
+submitted_each k f g [] = refl
+submitted_each k f g (n ∷ ns) =
+    submissions-append (option_to_list (item_of k n (f n) (g n))) (flat_map (λ n. option_to_list (item_of k n (f n) (g n))) ns)
+    ∙ ap₂ (λ a b. a ++ b) (submitted_one k n (f n) (g n)) (submitted_each k f g ns)
     ∙ sym (map-append (λ (r : StoredSubmission). r.bytes) (option_to_list (f n)) (flat_map (λ n. option_to_list (f n)) ns))
 
-came_each : (f : ℕ → Option StoredSubmission) (g : ℕ → Option StoredArrival) (ns : List ℕ) → ((n : ℕ) → (f n ≡ None) ⊎ (g n ≡ None))
-    → came (flat_map (λ n. option_to_list (item_of n (f n) (g n))) ns) ≡ map filed_of_row (flat_map (λ n. option_to_list (g n)) ns)
-came_each f g [] apart = refl
-came_each f g (n ∷ ns) apart =
-    came-append (option_to_list (item_of n (f n) (g n))) (flat_map (λ n. option_to_list (item_of n (f n) (g n))) ns)
-    ∙ ap₂ (λ a b. a ++ b) (came_one n (f n) (g n) (apart n)) (came_each f g ns apart)
+came_each : (k : Marks) (f : ℕ → Option StoredSubmission) (g : ℕ → Option StoredArrival) (ns : List ℕ) → ((n : ℕ) → (f n ≡ None) ⊎ (g n ≡ None))
+    → came (flat_map (λ n. option_to_list (item_of k n (f n) (g n))) ns) ≡ map filed_of_row (flat_map (λ n. option_to_list (g n)) ns)
+came_each k f g [] apart = refl
+came_each k f g (n ∷ ns) apart =
+    came-append (option_to_list (item_of k n (f n) (g n))) (flat_map (λ n. option_to_list (item_of k n (f n) (g n))) ns)
+    ∙ ap₂ (λ a b. a ++ b) (came_one k n (f n) (g n) (apart n)) (came_each k f g ns apart)
     ∙ sym (map-append filed_of_row (option_to_list (g n)) (flat_map (λ n. option_to_list (g n)) ns))
 
 -- No number is that of a submission and of an arrival.
@@ -187,7 +187,7 @@ apart s numbered n = elim (none_or_one seq_of_submission s.submitted n) [
 pub submissions_are : (s : Stored) → AreNumbered s → submissions (items_of s) ≡ map (λ r. r.bytes) s.submitted
 unfolding items_of
 submissions_are s numbered =
-    submitted_each (λ n. under seq_of_submission n s.submitted) (λ n. under seq_of_arrival n s.arrived) (range_with_len 1 s.seq)
+    submitted_each (marks_of s.origin) (λ n. under seq_of_submission n s.submitted) (λ n. under seq_of_arrival n s.arrived) (range_with_len 1 s.seq)
     ∙ ap (map (λ r. r.bytes)) (picked seq_of_submission s.seq 1 s.submitted numbered.submitted
     (λ k d within. (submitted_within s numbered k d within).low)
     (λ k d within. let top = (submitted_within s numbered k d within).high in omega arith))
@@ -195,7 +195,7 @@ submissions_are s numbered =
 pub came_are : (s : Stored) → AreNumbered s → came (items_of s) ≡ map filed_of_row s.arrived
 unfolding items_of
 came_are s numbered =
-    came_each (λ n. under seq_of_submission n s.submitted) (λ n. under seq_of_arrival n s.arrived) (range_with_len 1 s.seq) (apart s numbered)
+    came_each (marks_of s.origin) (λ n. under seq_of_submission n s.submitted) (λ n. under seq_of_arrival n s.arrived) (range_with_len 1 s.seq) (apart s numbered)
     ∙ ap (map filed_of_row) (picked seq_of_arrival s.seq 1 s.arrived numbered.arrived
     (λ k d within. (arrived_within s numbered k d within).low)
     (λ k d within. let top = (arrived_within s numbered k d within).high in omega arith))
@@ -248,18 +248,18 @@ pub items_submitted : (s : Stored) → AreNumbered s → (book : Numbers) (e : I
 items_submitted s numbered book e =
     let row = row_of_entry (s.seq + 1) e in
     let t = stored_after (record { book = book; seq = s.seq + 1; change = Submits e }) s in
-    items_more s t refl (λ n low. ap (λ a. item_of n a (under seq_of_arrival n s.arrived)) (find_kept (λ (r : StoredSubmission). r.seq == n) s.submitted row (differs_from_less (s.seq + 1) n (omega arith))))
-    ∙ ap (λ a. items_of s ++ option_to_list (item_of (s.seq + 1) a (under seq_of_arrival (s.seq + 1) s.arrived)))
+    items_more s t refl (λ n low. ap (λ a. item_of (marks_of s.origin) n a (under seq_of_arrival n s.arrived)) (find_kept (λ (r : StoredSubmission). r.seq == n) s.submitted row (differs_from_less (s.seq + 1) n (omega arith))))
+    ∙ ap (λ a. items_of s ++ option_to_list (item_of (marks_of s.origin) (s.seq + 1) a (under seq_of_arrival (s.seq + 1) s.arrived)))
     (find_pushed (λ (r : StoredSubmission). r.seq == s.seq + 1) s.submitted row (no_submission s numbered) (eq_itself (s.seq + 1)))
 
 -- an arrival adds its bytes, and the reply that is kept
 pub items_filed : (s : Stored) → AreNumbered s → (book : Numbers) (k : Filing) (settled : List (TransactionSetKey × Fate))
-    → items_of (stored_after (record { book = book; seq = s.seq + 1; change = Files k settled }) s) ≡ items_of s ++ Came (edition_at no_marks (s.seq + 1)) k.filed.bytes k.filed.reply ∷ []
+    → items_of (stored_after (record { book = book; seq = s.seq + 1; change = Files k settled }) s) ≡ items_of s ++ Came (edition_at (marks_of s.origin) (s.seq + 1)) k.filed.bytes k.filed.reply ∷ []
 items_filed s numbered book k settled =
     let row : StoredArrival = record { seq = s.seq + 1; filed = k.filed } in
     let t = stored_after (record { book = book; seq = s.seq + 1; change = Files k settled }) s in
-    items_more s t refl (λ n low. ap (λ b. item_of n (under seq_of_submission n s.submitted) b) (find_kept (λ (r : StoredArrival). r.seq == n) s.arrived row (differs_from_less (s.seq + 1) n (omega arith))))
-    ∙ ap₂ (λ a b. items_of s ++ option_to_list (item_of (s.seq + 1) a b)) (no_submission s numbered)
+    items_more s t refl (λ n low. ap (λ b. item_of (marks_of s.origin) n (under seq_of_submission n s.submitted) b) (find_kept (λ (r : StoredArrival). r.seq == n) s.arrived row (differs_from_less (s.seq + 1) n (omega arith))))
+    ∙ ap₂ (λ a b. items_of s ++ option_to_list (item_of (marks_of s.origin) (s.seq + 1) a b)) (no_submission s numbered)
     (find_pushed (λ (r : StoredArrival). r.seq == s.seq + 1) s.arrived row (no_arrival s numbered) (eq_itself (s.seq + 1)))
 
 -- an agreement and used numbers add nothing

@@ -17,6 +17,7 @@ pub mod ItemLemmas
 pub mod NumberedLemmas
 pub mod AgreedLemmas
 pub mod PendingLemmas
+pub mod OlderLemmas
 pub mod FateLemmas
 pub mod CellLemmas
 pub mod SettledLemmas

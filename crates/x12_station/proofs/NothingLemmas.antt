@@ -7,7 +7,7 @@ use Rattle.std.proofs.lemmas.List.Sorted.{IsPermutation-refl}
 use Rattle.x12_envelopes.specs.declared.party.Party.{Party}
 use Rattle.x12_acks.specs.Submission.{IsBefore}
 use Rattle.x12_outbound.specs.Entry.{IsSendable}
-use Rattle.x12_station.specs.Stored.{Origin, Stored, StoredArrival, HasSets, IsNumberedBy, IsKeptAgreement, IsSound, origin_of, nothing_stored, entries}
+use Rattle.x12_station.specs.Stored.{Origin, Stored, StoredArrival, HasSets, IsNumberedBy, IsKeptAgreement, IsSound, marks_of, origin_of, nothing_stored, entries}
 use Rattle.x12_station.specs.Record.{IsWholeEntry}
 use Rattle.x12_station.specs.Durable.{IsHistoryOf, IsAnsweredRightly, IsOwnSubmission, IsFiledRightly, fared_entries, items_of}
 use Rattle.x12_station.specs.declared.memory.MemoryRecords.{MemoryRecords}
@@ -42,17 +42,21 @@ nothing_is_kept o r is none = record {
 }
 
 -- a station wrote the records of its origin that hold nothing
-pub nothing_is_durable : (me : Party) (hubs : List Party) → IsHistoryOf me hubs (nothing_stored (origin_of me hubs))
+pub nothing_is_durable : (o : Origin) → IsHistoryOf o.me o.hubs (nothing_stored o)
 unfolding entries fared_entries items_of
-nothing_is_durable me hubs = record {
-  sound = nothing_is_sound (origin_of me hubs);
-  origin = refl;
+nothing_is_durable o = record {
+  sound = nothing_is_sound o;
+  origin = (refl, refl);
   fates = refl;
-  own = All-nil (IsOwnSubmission me);
+  own = All-nil (IsOwnSubmission o.me);
   filed = All-nil (λ (r : StoredArrival). IsFiledRightly r.filed);
-  answered = All-nil (IsAnsweredRightly me new_book);
+  answered = All-nil (IsAnsweredRightly (marks_of o) o.me new_book);
   posted = refl;
 }
 
 pub durable_where_nothing : (me : Party) (hubs : List Party) (s : Stored) → s ≡ nothing_stored (origin_of me hubs) → IsHistoryOf me hubs s
-durable_where_nothing me hubs s is = subst (IsHistoryOf me hubs) (sym is) (nothing_is_durable me hubs)
+durable_where_nothing me hubs s is = subst (IsHistoryOf me hubs) (sym is) (nothing_is_durable (origin_of me hubs))
+
+-- and those of any origin
+pub durable_of_origin : (o : Origin) (s : Stored) → s ≡ nothing_stored o → IsHistoryOf o.me o.hubs s
+durable_of_origin o s is = subst (IsHistoryOf o.me o.hubs) (sym is) (nothing_is_durable o)

@@ -21,7 +21,7 @@ use Rattle.x12_station.specs.Record.{loaded_of}
 use Rattle.x12_station.specs.Schedule.{Sending}
 use Rattle.x12_station.specs.Seen.{station_of, sending_of}
 use Rattle.x12_station.specs.StationStep.{open_submissions, is_open, restarted}
-use Rattle.x12_station.specs.Stored.{Stored, open_entries}
+use Rattle.x12_station.specs.Stored.{Stored, marks_of, open_entries}
 use Rattle.x12_station.proofs.OpenLemmas.{entries_open, entry_numbers}
 
 -- what is due at once
@@ -43,6 +43,7 @@ numbers_of (x ∷ xs) = ap (λ (qs : List Sending). record { number = x12.number
 module _ (me : Party) (its : Hubs) (s : Stored) (m : Cached) (taken : IsTakenIn me its (loaded_of s) m) where
   pub keeps_taken : Caches m s
   keeps_taken = record {
+    marks = taken.marks;
     book = taken.book;
     seq = taken.seq;
     agreements = taken.agreements;
@@ -64,7 +65,7 @@ module _ (me : Party) (its : Hubs) (s : Stored) (m : Cached) (taken : IsTakenIn 
         same taken.ledger.party taken.ledger.hubs taken.ledger.tick rows taken.counts
       where
         same : {me' : Party} {hubs' : List Party} {tick : ℕ} {qs : List Sending} {c : Counts} → me' ≡ me → hubs' ≡ hubs_of its → tick ≡ 0 → qs ≡ map (λ (x : Bytes). unsent (x12.number x)) (open_submissions x12 (kept_state me (hubs_of its) s)) → c ≡ only_unclear 0
-            → record { me = me'; hubs = hubs'; items = items_of s; agreements = s.agreements; book = s.book; tick = tick; sendings = qs; counts = c } ≡ opened me (hubs_of its) s
+            → record { me = me'; hubs = hubs'; marks = marks_of s.origin; items = items_of s; agreements = s.agreements; book = s.book; tick = tick; sendings = qs; counts = c } ≡ opened me (hubs_of its) s
         same a b t q c = rw (a, b, t, q, c) refl
 
 -- what is loaded again of records that are as they were

@@ -16,7 +16,7 @@ use Rattle.x12_inbound.specs.Sighting.{first, again, other, sighting_of}
 use Rattle.x12_judge.specs.Agreement.{TradingAgreement, agreement_view}
 use Rattle.x12_outbound.specs.Counts.{only_unclear}
 use Rattle.x12_profile.specs.Interchange.{Bytes, Needs, book_for}
-use Rattle.x12_profile.specs.Edition.{edition_at, no_marks}
+use Rattle.x12_profile.specs.Edition.{Marks, edition_at}
 use Rattle.x12_profile.specs.X12.{needs_of, x12}
 use Rattle.x12_profile.proofs.FieldLemmas as field
 use Rattle.x12_station.specs.declared.arriving.Arrival.{Arrival}
@@ -29,7 +29,7 @@ use Rattle.x12_station.specs.working.Drafting.{exhausted}
 use Rattle.x12_station.specs.Entering.{IsHeld}
 use Rattle.x12_station.specs.Fault.{arrival_fault, arrived_fault, has_no_item_left, numbers_fault}
 use Rattle.x12_station.specs.History.{KeptArrival, filed}
-use Rattle.x12_station.specs.Keeps.{IsReady}
+use Rattle.x12_station.specs.Keeps.{IsReady, cached_edition}
 use Rattle.x12_station.specs.Seen.{station_of}
 use Rattle.x12_station.specs.Station.{Station, edition_next}
 use Rattle.x12_station.specs.StationRefusal.{is_spent}
@@ -166,11 +166,11 @@ module _ (m : Cached) (s : Stored) (held : IsHeld m s) (b : Bytes) (h : Header) 
 
   -- the row of a new arrival
   pub new_fault : IsReady m → (x : Arrived) → first x ≡ sighting_of o (arrival h.sender h.icn b)
-      → exhausted (is_spent m.book (needs_of (edition_at no_marks (m.seq + 1)) m.me (map agreement_view m.agreements.items) b h) || nat_le (2 ^ 63 - 1) m.seq) ≡ arrival_fault was b
+      → exhausted (is_spent m.book (needs_of (cached_edition m) m.me (map agreement_view m.agreements.items) b h) || nat_le (2 ^ 63 - 1) m.seq) ≡ arrival_fault was b
   new_fault ready x is =
-      let edition_here : edition_at no_marks (m.seq + 1) ≡ edition_next was = ap (λ n. edition_at no_marks (n + 1)) (held.0.seq ∙ sym (length_items s held.1.sound.numbered)) in
-      let needs_here : needs_of (edition_at no_marks (m.seq + 1)) m.me (map agreement_view m.agreements.items) b h ≡ x12.needs (edition_next was) was.me was.agreements b =
-      ap₂ (λ (p : Party) (a : List TradingAgreement). needs_of (edition_at no_marks (m.seq + 1)) p a b h) (sym ready.me) held.0.agreements
+      let edition_here : cached_edition m ≡ edition_next was = ap₂ (λ (k : Marks) (n : ℕ). edition_at k (n + 1)) held.0.marks (held.0.seq ∙ sym (length_items s held.1.sound.numbered)) in
+      let needs_here : needs_of (cached_edition m) m.me (map agreement_view m.agreements.items) b h ≡ x12.needs (edition_next was) was.me was.agreements b =
+      ap₂ (λ (p : Party) (a : List TradingAgreement). needs_of (cached_edition m) p a b h) (sym ready.me) held.0.agreements
       ∙ ap (λ ed. needs_of ed was.me was.agreements b h) edition_here ∙ sym (field.needs_is b h known (edition_next was) was.me was.agreements) in
       let last_here : nat_le (2 ^ 63 - 1) m.seq ≡ has_no_item_left was =
       ap (nat_le (2 ^ 63 - 1)) (held.0.seq ∙ sym (length_items s held.1.sound.numbered)) in

@@ -15,6 +15,7 @@ use Rattle.x12_outbound.specs.declared.entry.Entry.{Entry}
 use Rattle.x12_outbound.specs.declared.fate.Fate.{Fate}
 use Rattle.x12_outbound.specs.Entry.{InterchangeRow, entry_row, row_is_open, submission_of_entry, IsSendable}
 use Rattle.x12_outbound.specs.Ledger.{AreInOrder}
+use Rattle.x12_profile.specs.Edition.{Marks}
 use Rattle.x12_numbers.proofs.Shelf.{pairs_from_map, all_from_map, pairs_to_map}
 use Rattle.x12_station.specs.Stored.{Stored, StoredArrival, entry_of_row, entries, IsSound, IsNumberedBy}
 use Rattle.x12_station.specs.Plan.{Commit, Files, changed, stored_after}
@@ -68,9 +69,9 @@ ended_and true false is = refl
 ended_and false b is = absurd (cc)
 
 -- what is loaded, part by part
-pub loaded_same : (book : Numbers) (seq : ℕ) (agreements agreements' : List TradingAgreement) (es es' : List InterchangeRow) → agreements ≡ agreements' → es ≡ es'
-    → (let l : Loaded = record { book = book; seq = seq; agreements = agreements; entries = es } in l) ≡ record { book = book; seq = seq; agreements = agreements'; entries = es' }
-loaded_same book seq agreements agreements' es es' a b = cc
+pub loaded_same : (marks marks' : Marks) (book : Numbers) (seq : ℕ) (agreements agreements' : List TradingAgreement) (es es' : List InterchangeRow) → marks ≡ marks' → agreements ≡ agreements' → es ≡ es'
+    → (let l : Loaded = record { marks = marks; book = book; seq = seq; agreements = agreements; entries = es } in l) ≡ record { marks = marks'; book = book; seq = seq; agreements = agreements'; entries = es' }
+loaded_same marks marks' book seq agreements agreements' es es' k a b = cc
 
 -- nothing was filed under a key that is filed anew
 not_filed : (f : FiledInterchange) (olds : List StoredArrival) (a : StoredArrival) → a.filed ≡ f → IsDistinct (λ r q. is_same_interchange (filed_key r.filed) (filed_key q.filed)) (olds ++ a ∷ []) → found_in (map (λ r. r.filed) olds) (filed_key f) ≡ None

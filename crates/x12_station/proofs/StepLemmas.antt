@@ -19,7 +19,6 @@ use Rattle.x12_acks.proofs.FindLemmas.{clash}
 use Rattle.x12_inbound.specs.Accepted.{PostsWhatIsAccepted}
 use Rattle.x12_inbound.specs.Arrival.{arrival}
 use Rattle.x12_profile.specs.declared.edition.Edition.{Edition}
-use Rattle.x12_profile.specs.declared.edition.Edition.TheVariants.{Second}
 use Rattle.x12_profile.specs.Interchange.{Bytes, Needs, book_for, is_within}
 use Rattle.x12_profile.specs.Laws.{Laws, IsReply}
 use Rattle.x12_profile.specs.Reading.{answers_in}
@@ -28,6 +27,7 @@ use Rattle.x12_profile.proofs.FieldLemmas as field
 use Rattle.x12_station.specs.Closed.{heard}
 use Rattle.x12_station.specs.Durable.{IsFiledRightly, WasAnswered}
 use Rattle.x12_station.specs.History.{Item, Came, posted_by, submissions}
+use Rattle.x12_station.specs.Older.{answers_as_read}
 use Rattle.x12_station.specs.Station.{Station, edition_next}
 use Rattle.x12_station.specs.StationStep.{StationStep, arrive_new, filed_now, replied, writes}
 use Rattle.x12_station.proofs.DraftLemmas.{no_reply, with_reply, group_is_due}
@@ -56,13 +56,13 @@ module _ (ed : Edition) (me : Party) (a : List TradingAgreement) (b : Bytes) (h 
       ∙ sym (ap (λ j. is_refused j.verdict) (field.is_first ed me a h b))
 
   -- the evidence that the arrival brings is that of what is heard of it
-  pub brought_is : ed ≡ Second → (hubs : List Party) (items : List Item) → brought ed me hubs items b ≡ evidence_of hubs (all_submitted items) h.sender (heard (judged_by ed me a h b).verdict b)
+  pub brought_is : (hubs : List Party) (items : List Item) → brought ed me hubs items b ≡ evidence_of hubs (all_submitted items) h.sender (heard ed (judged_by ed me a h b).verdict b)
   unfolding evidence_of
-  brought_is newest hubs items = by (x12.refuses ed me b) refl
+  brought_is hubs items = by (x12.refuses ed me b) refl
     where
-      by : (t : Bool) → x12.refuses ed me b ≡ t → (if x12.refuses ed me b then [] else x12.pieces ed hubs (submissions items) b) ≡ evidence_of hubs (all_submitted items) h.sender (if is_refused (judged_by ed me a h b).verdict then [] else answers_in b)
+      by : (t : Bool) → x12.refuses ed me b ≡ t → (if x12.refuses ed me b then [] else x12.pieces ed hubs (submissions items) b) ≡ evidence_of hubs (all_submitted items) h.sender (if is_refused (judged_by ed me a h b).verdict then [] else answers_as_read ed (answers_in b))
       by true is = rw (is, sym refused_is ∙ is) refl
-      by false is = rw (is, sym refused_is ∙ is) (pieces_are ed newest hubs (submissions items) b ∙ ap (λ p. evidence_of hubs (all_submitted items) p (answers_in b)) (field.sender_is b h known))
+      by false is = rw (is, sym refused_is ∙ is) (pieces_are ed hubs (submissions items) b ∙ ap (λ p. evidence_of hubs (all_submitted items) p (answers_as_read ed (answers_in b))) (field.sender_is b h known))
 
   module _ (last book : Numbers) (book_is : book ≡ book_for last (needs_of ed me a b h)) (at : Moment) (r : Option Bytes)
       (r_is : r ≡ due_reply h (judged_by ed me a h b) me at book.interchange book.group) where

@@ -24,7 +24,7 @@ use Rattle.x12_station.specs.Standing.{LeavesNoMore, MayLeave}
 use Rattle.x12_station.specs.Station.{Station}
 use Rattle.x12_station.specs.StationStep.{StationStep, arrive_other, entered, submit, submit_orders}
 use Rattle.x12_station.specs.Stopped.{HoldsStep, LeavesStep, LeavesWhole}
-use Rattle.x12_station.specs.Stored.{Stored}
+use Rattle.x12_station.specs.Stored.{Stored, marks_of}
 use Rattle.x12_station.specs.working.Orders.{IsOrdered}
 use Rattle.x12_station.specs.working.Prepared.{Knows, MayEnter}
 use Rattle.x12_station.proofs.ArrivingLemmas.{left_noted}
@@ -66,7 +66,7 @@ step_then g mid step asked won clean_before next same = record {
 }
 
 held_by : (v : OutboundLedger) (c : Counts) (s d : Stored) → d ≡ s → HoldsState (station_of v c s) d
-held_by v c s d is = record { items = ap items_of is; agreements = ap (λ (z : Stored). z.agreements) is; book = ap (λ (z : Stored). z.book) is }
+held_by v c s d is = record { marks = ap (λ (z : Stored). marks_of z.origin) is; items = ap items_of is; agreements = ap (λ (z : Stored). z.agreements) is; book = ap (λ (z : Stored). z.book) is }
 
 -- a station as it is seen
 abbrev pub seen : {R : Type 0} → Ghosts R → OutboundLedger → Counts → StationMemory → R → StationView R

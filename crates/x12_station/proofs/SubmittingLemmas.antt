@@ -4,6 +4,7 @@ use mathlib.Core.Path.{sym, subst, ◌∙◌}
 use Rattle.std.proofs.lemmas.List.{length-replicate}
 use Rattle.x12_profile.specs.Interchange.{Bytes}
 use Rattle.x12_profile.specs.X12.{x12}
+use Rattle.x12_profile.specs.Edition.{no_marks}
 use Rattle.x12_station.specs.declared.cached.Cached.{Cached}
 use Rattle.x12_station.specs.Entering.{IsHeld}
 use Rattle.x12_station.specs.Fault.{prepared_fault}
@@ -43,6 +44,6 @@ submit_held s x d none holds = subst (λ step. HoldsStep step d) (sym (submit_ta
 -- a station that memory may tell of
 pub some_known : (m : Cached) → (s : Station) × Knows m s
 some_known m = (
-  record { me = m.me; hubs = []; items = replicate m.seq (Submitted []); agreements = []; book = m.book; tick = 0; sendings = []; counts = m.counts },
+  record { me = m.me; hubs = []; marks = no_marks; items = replicate m.seq (Submitted []); agreements = []; book = m.book; tick = 0; sendings = []; counts = m.counts },
   record { me = refl; book = refl; last = length-replicate m.seq (Submitted []) },
 )

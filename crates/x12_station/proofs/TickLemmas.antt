@@ -130,7 +130,7 @@ module _ (now : ℕ) (m : Cached) (l : LedgerInMemory) (is : l.holds ≡ after_t
   }
 
   pub keeps_after : (s : Stored) → Caches m s → Caches ticked s
-  keeps_after s keeps = record { book = keeps.book; seq = keeps.seq; agreements = keeps.agreements; open_ones = interchanges_are ∙ keeps.open_ones }
+  keeps_after s keeps = record { marks = keeps.marks; book = keeps.book; seq = keeps.seq; agreements = keeps.agreements; open_ones = interchanges_are ∙ keeps.open_ones }
 
   pub durable_after : (s : Stored) → IsHistoryOf m.ledger.holds.me m.ledger.holds.hubs s → IsHistoryOf l.holds.me l.holds.hubs s
   unfolding after_tick

@@ -6,15 +6,17 @@ use Rattle.x12_judge.specs.Verdict.{InterchangeVerdict}
 use Rattle.x12_acks.specs.Answer.{Acknowledgment}
 use Rattle.x12_outbound.specs.Entry.{GroupRow, InterchangeRow, row_is_open}
 use Rattle.x12_outbound.specs.Ledger.{OutboundLedger, interchange_numbered}
+use Rattle.x12_profile.specs.declared.edition.Edition.{Edition}
 use Rattle.x12_profile.specs.Interchange.{Bytes}
 use Rattle.x12_profile.specs.Reading.{answers_in}
 use Rattle.x12_profile.specs.X12.{is_refused}
 use Rattle.x12_station.specs.Found.{closed_for}
+use Rattle.x12_station.specs.Older.{answers_as_read}
 use Rattle.x12_station.specs.Stored.{Stored, entries, closed_entry}
 
--- what a station hears of bytes that it judged so; one that is refused tells nothing
-abbrev pub heard : InterchangeVerdict → Bytes → List Acknowledgment
-heard v b = if is_refused v then [] else answers_in b
+-- what a station hears of bytes that it judged so, by an edition; one that is refused tells nothing
+abbrev pub heard : Edition → InterchangeVerdict → Bytes → List Acknowledgment
+heard by v b = if is_refused v then [] else answers_as_read by (answers_in b)
 
 -- the numbers of the closed submissions that answers may name are among these
 abbrev pub HoldsNumbers : Stored → Party → List Acknowledgment → List ℕ → Type 0

@@ -11,22 +11,22 @@ use Rattle.x12_acks.specs.Submission.{Submission, SubmittedGroup, SubmittedSet}
 use Rattle.x12_inbound.specs.Filing.{FiledInterchange}
 use Rattle.x12_outbound.specs.Entry.{InterchangeRow, GroupRow, SetRow}
 use Rattle.x12_profile.specs.declared.edition.Edition.{Edition}
-use Rattle.x12_profile.specs.Edition.{edition_at, no_marks}
+use Rattle.x12_profile.specs.Edition.{Marks, edition_at}
 use Rattle.x12_profile.specs.Interchange.{Bytes}
 use Rattle.x12_profile.specs.X12.{x12, submission_in_bytes}
 use Rattle.x12_station.specs.History.{Item, Submitted, Came, submissions, postings, fate_in}
-use Rattle.x12_station.specs.Stored.{Stored, StoredArrival, IsSound, origin_of, entries}
+use Rattle.x12_station.specs.Stored.{Stored, StoredArrival, IsSound, marks_of, entries}
 
--- an arrival of this number, whose edition the number gives
-abbrev pub item_of_arrival : ℕ → StoredArrival → Item
-item_of_arrival n r = Came (edition_at no_marks n) r.filed.bytes r.filed.reply
+-- an arrival of this number, whose edition the marks and the number give
+abbrev pub item_of_arrival : Marks → ℕ → StoredArrival → Item
+item_of_arrival marks n r = Came (edition_at marks n) r.filed.bytes r.filed.reply
 
 -- the submission or the first arrival of this number
 abbrev pub item_at : Stored → ℕ → Option Item
 item_at s n =
     option_or
     (option_map (λ r. Submitted r.bytes) (find (λ r. r.seq == n) s.submitted))
-    (option_map (item_of_arrival n) (find (λ r. r.seq == n) s.arrived))
+    (option_map (item_of_arrival (marks_of s.origin) n) (find (λ r. r.seq == n) s.arrived))
 
 -- the history: submissions and first arrivals in the order of their numbers
 unfoldable pub items_of : Stored → List Item
@@ -84,8 +84,8 @@ pub record WasAnswered (by : Edition) (me : Party) (book : Numbers) (f : FiledIn
       else None)
 
 -- there were such agreements, such a moment and such numbers, by the edition of its number
-abbrev pub IsAnsweredRightly : Party → Numbers → StoredArrival → Type 0
-IsAnsweredRightly me book r = ∥ WasAnswered (edition_at no_marks r.seq) me book r.filed ∥₁
+abbrev pub IsAnsweredRightly : Marks → Party → Numbers → StoredArrival → Type 0
+IsAnsweredRightly marks me book r = ∥ WasAnswered (edition_at marks r.seq) me book r.filed ∥₁
 
 -- a station may have submitted these bytes
 pub record IsOwnSubmission (me : Party) (x : Bytes) : Type 0 where
@@ -96,12 +96,12 @@ pub record IsOwnSubmission (me : Party) (x : Bytes) : Type 0 where
 pub record IsHistoryOf (me : Party) (hubs : List Party) (s : Stored) : Type 0 where
   pub sound : IsSound s
   -- they say whose they are
-  pub origin : s.origin ≡ origin_of me hubs
+  pub origin : (s.origin.me ≡ me) × (s.origin.hubs ≡ hubs)
   -- the fates of the submissions' sets are those that the history tells
   pub fates : entries s ≡ fared_entries me hubs (items_of s)
   pub own : All (IsOwnSubmission me) (submissions (items_of s))
   pub filed : All (λ r. IsFiledRightly r.filed) s.arrived
   -- each reply that is kept was due, under numbers that the book has as used
-  pub answered : All (IsAnsweredRightly me s.book) s.arrived
+  pub answered : All (IsAnsweredRightly (marks_of s.origin) me s.book) s.arrived
   -- what is posted is what the kept replies accept
   pub posted : s.postings ≡ postings x12 (items_of s)

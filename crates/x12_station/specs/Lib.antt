@@ -14,6 +14,7 @@ pub mod Seen
 pub mod Fault
 pub mod Keeps
 pub mod Found
+pub mod Older
 pub mod Closed
 pub mod TableLaw
 pub mod Opened

@@ -6,7 +6,7 @@ use Rattle.x12_outbound.specs.Counts.{only_unclear}
 use Rattle.x12_profile.specs.X12.{x12}
 use Rattle.x12_station.specs.Station.{Station}
 use Rattle.x12_station.specs.StationStep.{restarted}
-use Rattle.x12_station.specs.Stored.{Stored}
+use Rattle.x12_station.specs.Stored.{Stored, marks_of}
 use Rattle.x12_station.specs.Durable.{items_of}
 
 -- what the records hold of a station, which has seen no tick and sent nothing
@@ -14,6 +14,7 @@ abbrev pub kept_state : Party → List Party → Stored → Station
 kept_state me hubs s = record {
   me = me;
   hubs = hubs;
+  marks = marks_of s.origin;
   items = items_of s;
   agreements = s.agreements;
   book = s.book;
@@ -28,6 +29,7 @@ opened me hubs s = restarted x12 (kept_state me hubs s)
 
 -- records hold what a restart of the station keeps
 pub record HoldsState (state : Station) (s : Stored) : Type 0 where
+  pub marks : marks_of s.origin ≡ state.marks
   pub items : items_of s ≡ state.items
   pub agreements : s.agreements ≡ state.agreements
   pub book : s.book ≡ state.book

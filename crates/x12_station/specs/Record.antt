@@ -14,9 +14,10 @@ use Rattle.x12_station.specs.declared.records.Item.{Item as CodeItem}
 use Rattle.x12_station.specs.declared.records.Item.TheVariants as kept
 use Rattle.x12_station.specs.declared.records.Loaded.{Loaded as CodeLoaded}
 use Rattle.x12_station.specs.declared.records.Owner.{Owner}
-use Rattle.x12_profile.specs.Edition.{edition_at, no_marks}
+use Rattle.x12_profile.specs.Edition.{Marks, edition_at}
+use Rattle.x12_profile.specs.Marking.{marks_view}
 use Rattle.x12_station.specs.History.{Item, Submitted, Came}
-use Rattle.x12_station.specs.Stored.{Origin, Stored, open_entries, HasSets, IsNumberedBy, IsKeptAgreement}
+use Rattle.x12_station.specs.Stored.{Origin, Stored, marks_of, open_entries, HasSets, IsNumberedBy, IsKeptAgreement}
 use Rattle.x12_station.specs.Plan.{Change, Submits, Files, Agrees, TakesNumbers}
 
 abbrev pub change_view : CodeChange → Change
@@ -33,14 +34,15 @@ owner_view o = record {
   era = o.era;
 }
 
--- a submission or a first arrival of this number, as the history has it
-abbrev pub history_item : ℕ → CodeItem → Item
-history_item n (kept.Submitted bytes) = Submitted bytes.items
-history_item n (kept.Came filed) =
-    Came (edition_at no_marks n) filed.bytes.items (reply_bytes filed.reply)
+-- a submission or a first arrival of this number, as the history with these marks has it
+abbrev pub history_item : Marks → ℕ → CodeItem → Item
+history_item marks n (kept.Submitted bytes) = Submitted bytes.items
+history_item marks n (kept.Came filed) =
+    Came (edition_at marks n) filed.bytes.items (reply_bytes filed.reply)
 
--- what a station loads: its numbers, its agreements, and its open submissions
+-- what a station loads: its marks, its numbers, its agreements, and its open submissions
 pub record Loaded : Type 0 where
+  pub marks : Marks
   pub book : Numbers
   pub seq : ℕ
   pub agreements : List TradingAgreement
@@ -48,6 +50,7 @@ pub record Loaded : Type 0 where
 
 abbrev pub loaded_view : CodeLoaded → Loaded
 loaded_view l = record {
+  marks = marks_view l.marks;
   book = l.book;
   seq = l.seq;
   agreements = map agreement_view l.agreements.items;
@@ -56,6 +59,7 @@ loaded_view l = record {
 
 abbrev pub loaded_of : Stored → Loaded
 loaded_of s = record {
+  marks = marks_of s.origin;
   book = s.book;
   seq = s.seq;
   agreements = s.agreements;

@@ -5,14 +5,16 @@ use Rattle.x12_judge.specs.Agreement.{TradingAgreement}
 use Rattle.x12_numbers.specs.Book.{Numbers}
 use Rattle.x12_outbound.specs.declared.evidence.Counts.{Counts}
 use Rattle.x12_outbound.specs.Ledger.{OutboundLedger, LedgerRow}
+use Rattle.x12_profile.specs.Edition.{Marks}
 use Rattle.x12_station.specs.Schedule.{Sending}
 use Rattle.x12_station.specs.Station.{Station}
-use Rattle.x12_station.specs.Stored.{Stored}
+use Rattle.x12_station.specs.Stored.{Stored, marks_of}
 use Rattle.x12_station.specs.Durable.{items_of}
 
--- what a station has in memory: the last numbers, the agreements, what is open with its schedules (and
--- the station's party, its hubs and the greatest tick seen), and what was counted
+-- what a station has in memory: the marks, the last numbers, the agreements, what is open with its
+-- schedules (and the station's party, its hubs and the greatest tick seen), and what was counted
 pub record StationMemory : Type 0 where
+  pub marks : Marks
   pub book : Numbers
   pub seq : ℕ
   pub agreements : List TradingAgreement
@@ -45,6 +47,7 @@ abbrev pub station_of : OutboundLedger → Counts → Stored → Station
 station_of ledger counts s = record {
   me = ledger.me;
   hubs = ledger.hubs;
+  marks = marks_of s.origin;
   items = items_of s;
   agreements = s.agreements;
   book = s.book;

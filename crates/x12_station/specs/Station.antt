@@ -5,7 +5,7 @@ use Rattle.std.specs.Prelude.{filter, bytes_eq}
 use Rattle.x12_envelopes.specs.declared.party.Party.{Party}
 use Rattle.x12_judge.specs.Agreement.{is_same_party, TradingAgreement}
 use Rattle.x12_profile.specs.declared.edition.Edition.{Edition}
-use Rattle.x12_profile.specs.Edition.{edition_at, no_marks}
+use Rattle.x12_profile.specs.Edition.{Marks, edition_at, no_marks}
 use Rattle.x12_profile.specs.Interchange.{Book}
 use Rattle.x12_outbound.specs.declared.evidence.Counts.{Counts}
 use Rattle.x12_outbound.specs.Counts.{only_unclear}
@@ -17,6 +17,8 @@ pub record Station : Type 0 where
   pub me : Party
   -- the hubs whose TA1s it believes
   pub hubs : List Party
+  -- how far its history is read in an older way
+  pub marks : Marks
   -- its history, the agreements in force, and the last control numbers
   pub items : List Item
   pub agreements : List TradingAgreement
@@ -28,13 +30,14 @@ pub record Station : Type 0 where
 
 -- the edition of what comes next
 abbrev pub edition_next : Station → Edition
-edition_next s = edition_at no_marks (length s.items + 1)
+edition_next s = edition_at s.marks (length s.items + 1)
 
 -- a station of this party with empty records
 abbrev pub new_station : Party → List Party → Station
 new_station me hubs = record {
   me = me;
   hubs = hubs;
+  marks = no_marks;
   items = [];
   agreements = [];
   book = new_book;

@@ -15,6 +15,7 @@ use Rattle.x12_outbound.specs.Ledger.{AreInOrder}
 use Rattle.x12_inbound.specs.Filing.{FiledInterchange, filed_key}
 use Rattle.x12_inbound.specs.Order.{interchange, is_same_interchange}
 use Rattle.x12_inbound.specs.Register.{found_in, AreOfFiled}
+use Rattle.x12_profile.specs.Edition.{Marks}
 
 -- a submitted interchange: its number among submissions and first arrivals, its control number
 -- (ISA13), its receiver, and its bytes
@@ -53,6 +54,10 @@ pub record Origin : Type 0 where
 -- the origin of a station's records in which each arrival is read alike
 abbrev pub origin_of : Party → List Party → Origin
 origin_of me hubs = record { me = me; hubs = hubs; noted = 0; era = 0 }
+
+-- how far records of this origin are read in an older way
+abbrev pub marks_of : Origin → Marks
+marks_of o = record { noted = o.noted }
 
 -- Whose they are; the last control numbers and the last number of a submission or first arrival; how
 -- many postings were handed over; the agreements; the submissions in their order, and their

@@ -1,7 +1,7 @@
 //! An arrival: judged once, posted once, and answered the same way for good.
 
 ghost use Rattle.std.specs.Prelude.{◌≡◌, ℕ, List, Ok, true, false, not, IsTrue, IfOk, IfErr, OnErr};
-ghost use Rattle.std.specs.Prelude.{◌≤◌, ◌+◌, ◌-◌, ◌^◌, ◌||◌, map, nat_le, None, option_map};
+ghost use Rattle.std.specs.Prelude.{◌≤◌, ◌-◌, ◌^◌, ◌||◌, map, nat_le, None, option_map};
 ghost use Rattle.std.specs.Borrow.{Bor};
 ghost use Rattle.x12_envelopes.specs.declared.delimiters.Delims.{Delims};
 ghost use Rattle.x12_envelopes.specs.Header.{header_of};
@@ -12,7 +12,6 @@ ghost use Rattle.x12_judge.specs.Agreement.{agreement_view};
 ghost use Rattle.x12_judge.specs.Interchange.{reading_is_silent};
 ghost use Rattle.x12_outbound.specs.Counts.{only_unclear, AreCounts};
 ghost use Rattle.x12_outbound.specs.Plan.{IsPlan};
-ghost use Rattle.x12_profile.specs.Edition.{edition_at, no_marks};
 ghost use Rattle.x12_profile.specs.Interchange.{book_for};
 ghost use Rattle.x12_profile.specs.X12.{judged_by, needs_of, x12};
 ghost use Rattle.x12_station.specs.Arriving.{AreReadAs, TakesNew, TakesOther, counts_told};
@@ -21,6 +20,7 @@ ghost use Rattle.x12_station.specs.declared.arriving.ArrivalKind.TheVariants.{Ne
 ghost use Rattle.x12_station.specs.declared.fault.StationFault.TheVariants.{Store};
 ghost use Rattle.x12_station.specs.working.Drafting.{exhausted, IsDraft};
 ghost use Rattle.x12_station.specs.Fault.{IsRowOrWant};
+ghost use Rattle.x12_station.specs.Keeps.{cached_edition};
 ghost use Rattle.x12_station.specs.working.Hearing.{IsHeard};
 ghost use Rattle.x12_profile.specs.Stop.{CountsFailures};
 ghost use Rattle.x12_station.specs.Seen.{station_of};
@@ -45,7 +45,7 @@ use x12_envelopes::{Header, Moment, Outline};
 use x12_inbound::{Arrived, what_is_posted_was_accepted};
 use x12_judge::read_interchange;
 use x12_outbound::{Counts, Settling};
-use x12_profile::{Edition, Marks, x12_meets_the_laws};
+use x12_profile::{Edition, x12_meets_the_laws};
 
 /// What an arrival was, by what is filed under its sender (ISA05, ISA06) and number (ISA13).
 #[derive(Clone, Copy, Debug, PartialEq, Eq)]
@@ -173,25 +173,26 @@ fn weighed<R: Records>(
     requires read { AreReadAs bytes.now header.now (arrived_view arrived) }
     ensures asked { WereAsked R.Records records.old records.new }
     ensures weighed { IfOk result (λ w. IsPlan memory.now.ledger.holds w.1.pieces
-        × IsDraft (edition_at no_marks (memory.now.seq + 1)) memory.now.me
+        × IsDraft (cached_edition memory.now) memory.now.me
         (map agreement_view memory.now.agreements.items) at.now
         memory.now.book header.now bytes.now w.0) }
     ensures heard { let ags = map agreement_view memory.now.agreements.items in
         IsTrue (R.answers records.new) → IfOk result (λ w. IsHeard memory.now.ledger.holds
-        (R.content records.old) header.now.sender (heard
-        (judged_by (edition_at no_marks (memory.now.seq + 1)) memory.now.me ags header.now bytes.now).verdict
+        (R.content records.old) header.now.sender (heard (cached_edition memory.now)
+        (judged_by (cached_edition memory.now) memory.now.me ags header.now bytes.now).verdict
         bytes.now) w.1) }
 
     ensures fault { IfErr result (IsRowOrWant (exhausted (is_spent memory.now.book (needs_of
-        (edition_at no_marks (memory.now.seq + 1)) memory.now.me (map agreement_view memory.now.agreements.items) bytes.now header.now)))) }
+        (cached_edition memory.now) memory.now.me (map agreement_view memory.now.agreements.items)
+        bytes.now header.now)))) }
     ensures device { CountsFailures result (λ f. f ≡ Store)
         (R.failed records.old) (R.failed records.new) }
 {
     let (alloc, me) = (memory.alloc, &memory.me);
-    let edition = Edition::after(Marks { noted: 0 }, memory.seq);
+    let edition = Edition::after(memory.marks, memory.seq);
     let reading = read_interchange(alloc, bytes, header)?;
     let judgement = edition.judge(alloc, me, &memory.agreements, header, &reading)?;
-    let answers = answers_heard(alloc, header, &reading, &judgement)?;
+    let answers = answers_heard(alloc, edition, header, &reading, &judgement)?;
     let settling = match planned(records, alloc, &memory.ledger, &header.sender, &answers) {
         Ok(settling) => settling,
         Err(fault) => return Err(fault),
@@ -239,7 +240,7 @@ pub(crate) fn answer_new<R: Records>(
         records.old records.new }
 
     ensures fault { let last = nat_le (2 ^ 63 - 1) memory.old.seq in
-        let by = edition_at no_marks (memory.old.seq + 1) in
+        let by = cached_edition memory.old in
         IfErr result (IsRowOrWant (exhausted (is_spent memory.old.book (needs_of by memory.old.me
         (map agreement_view memory.old.agreements.items) bytes.now header.now) || last))) }
     ensures unchanged { IsTrue (R.answers records.new) → OnErr result

@@ -51,12 +51,14 @@ fn counts_nothing(counts: &Counts) -> bool
         && counts.unclear == 0
 }
 
-/// Whether memory is as that of a station which was opened over records that hold nothing.
+/// Whether memory is as that of a station which was opened over records that hold nothing and have no
+/// marks.
 fn is_untouched(memory: &Cached) -> bool
     ensures yes { IsTrue result → IsUntouched memory.now }
     ensures no { IsUntouched memory.now → IsTrue result }
 {
-    memory.seq == 0
+    memory.marks.noted == 0
+        && memory.seq == 0
         && memory.agreements.is_empty()
         && is_unused(&memory.book)
         && memory.ledger.tick() == 0
@@ -102,8 +104,8 @@ impl<R: Records> Station<R> {
         self.memory.counts
     }
 
-    /// Whether the station is as one that was opened over records that hold nothing: it was asked to
-    /// do nothing yet.
+    /// Whether the station is as one that was opened over records that hold nothing and have no marks:
+    /// it was asked to do nothing yet.
     pub fn is_new(&self) -> bool
         ensures new { IsTrue self.now.answers → IsTrue result →
             self.now.state ≡ new_station self.now.state.me self.now.state.hubs }

@@ -13,8 +13,9 @@ use x12_envelopes::Party;
 use x12_judge::Agreement;
 use x12_numbers::Book;
 use x12_outbound::{Counts, Hubs, Ledger};
+use x12_profile::Marks;
 
-/// What a station keeps in memory: of its records the numbers, the agreements and the open
+/// What a station keeps in memory: of its records the marks, the numbers, the agreements and the open
 /// submissions; and what a restart forgets.
 #[derive(Drop)]
 pub(crate) struct Cached {
@@ -23,6 +24,8 @@ pub(crate) struct Cached {
     pub me: Party,
     /// The station's hub, and the one that this is connected to.
     pub hubs: Hubs,
+    /// How far the history is judged and read in an older way.
+    pub marks: Marks,
     /// The last control numbers.
     pub book: Book,
     /// The last number of a submission or first arrival.
@@ -52,6 +55,7 @@ impl Cached {
             alloc,
             me,
             hubs,
+            marks: loaded.marks,
             book: loaded.book,
             seq: loaded.seq,
             agreements: loaded.agreements,

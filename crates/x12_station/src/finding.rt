@@ -7,6 +7,7 @@ ghost use Rattle.x12_acks.specs.Key.{key_view};
 ghost use Rattle.x12_inbound.specs.Posting.{posting_view};
 ghost use Rattle.x12_inbound.specs.Register.{posted_in};
 ghost use Rattle.x12_outbound.specs.Entry.{at_place};
+ghost use Rattle.x12_profile.specs.Edition.{Marks};
 ghost use Rattle.x12_station.specs.Durable.{item_of_arrival};
 ghost use Rattle.x12_station.specs.History.{Submitted};
 ghost use Rattle.x12_station.specs.Memory.{arrival_view, numbered_row, ArrivalsRise, SeqsRise};
@@ -37,7 +38,8 @@ fn submitted_item(
     seq: u64,
 ) -> Result<Option<Item>, AllocError>
     requires { SeqsRise (map numbered_row rows.now) }
-    ensures { IfOk result (λ o. option_map (history_item seq) o ≡ option_map (λ n. Submitted n.entry.bytes)
+    ensures { (marks : Marks) → IfOk result (λ o. option_map (history_item marks seq) o
+        ≡ option_map (λ n. Submitted n.entry.bytes)
         (find (λ n. n.seq == seq) (map numbered_row rows.now))) }
 {
     let Some(index) = submission_index(rows, seq) else {
@@ -70,8 +72,8 @@ fn arrived_item(
     seq: u64,
 ) -> Result<Option<Item>, AllocError>
     requires { ArrivalsRise (map arrival_view arrivals.now.entries) }
-    ensures { IfOk result (λ o. option_map (history_item seq) o
-        ≡ option_map (item_of_arrival seq)
+    ensures { (marks : Marks) → IfOk result (λ o. option_map (history_item marks seq) o
+        ≡ option_map (item_of_arrival marks seq)
         (find (λ r. r.seq == seq) (map arrival_view arrivals.now.entries))) }
 {
     let Some(index) = arrival_index(arrivals, seq) else {
@@ -92,10 +94,10 @@ pub(crate) fn find_numbered(
 ) -> Result<Option<Item>, AllocError>
     requires submitted { SeqsRise (map numbered_row rows.now) }
     requires arrived { ArrivalsRise (map arrival_view arrivals.now.entries) }
-    ensures { IfOk result (λ o. option_map (history_item seq) o ≡ option_or
+    ensures { (marks : Marks) → IfOk result (λ o. option_map (history_item marks seq) o ≡ option_or
         (option_map (λ n. Submitted n.entry.bytes)
         (find (λ n. n.seq == seq) (map numbered_row rows.now)))
-        (option_map (item_of_arrival seq)
+        (option_map (item_of_arrival marks seq)
         (find (λ r. r.seq == seq) (map arrival_view arrivals.now.entries)))) }
 {
     match submitted_item(alloc, rows, seq)? {

@@ -16,11 +16,13 @@ ghost use Rattle.x12_profile.specs.Stop.{CountsFailures};
 ghost use Rattle.x12_station.specs.Standing.{WereAsked};
 
 use crate::fault::StationFault;
+use crate::older::read_by;
 use crate::records::{Records, StoreFault};
 use std::alloc::{AllocError, Global};
 use x12_acks::{Answer, read_answers};
 use x12_envelopes::{Header, Party};
 use x12_judge::{Judgement, Reading, Verdict};
+use x12_profile::Edition;
 
 /// What an interchange answers; nothing where its segments can't be read.
 fn answers_read(
@@ -38,21 +40,26 @@ fn answers_read(
     }
 }
 
-/// What a station hears of an arrival that it read and judged so: its answers, unless it is refused.
+/// What a station hears of an arrival that it read and judged so, by this edition: its answers, unless
+/// it is refused.
 pub(crate) fn answers_heard(
     alloc: Global,
+    edition: Edition,
     header: &Header,
     reading: &Reading<'_>,
     judgement: &Judgement,
 ) -> Result<Vec<Answer>, AllocError>
     ensures { (bytes : List ℕ) → header_of bytes ≡ Ok header.now →
         IsReadOf bytes header.now reading.now →
-        let heard_of = heard (judgement_view judgement.now).verdict bytes in
+        let heard_of = heard edition (judgement_view judgement.now).verdict bytes in
         IfOk result (λ v. map answer_view v.items ≡ heard_of) }
 {
     match &judgement.verdict {
         Verdict::Refused(_) => Ok(Vec::new(alloc)),
-        Verdict::Judged(_) => answers_read(alloc, header, reading),
+        Verdict::Judged(_) => {
+            let answers = answers_read(alloc, header, reading)?;
+            read_by(alloc, edition, answers)
+        }
     }
 }
 

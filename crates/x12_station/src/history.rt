@@ -31,7 +31,8 @@ impl<R: Records> Station<R> {
         ensures crash { LeavesAsBefore R.Records self.old self.new }
         ensures same { IsTrue self.new.answers → self.new.state ≡ self.old.state }
         ensures item { IsTrue self.new.answers → IfOk result (λ o.
-            option_map (history_item number) o ≡ at_place number self.old.state.items) }
+            option_map (history_item self.old.state.marks number) o
+            ≡ at_place number self.old.state.items) }
 
         ensures fault { IfErr result IsOfRecords }
         ensures store { CountsFailures result (λ f. f ≡ Store)

@@ -22,6 +22,7 @@ mod loading;
 mod look_up;
 mod memory;
 mod noting;
+mod older;
 mod opening;
 mod ordered;
 mod ordering;

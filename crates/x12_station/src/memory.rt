@@ -13,7 +13,7 @@ ghost use Rattle.x12_station.specs.Stored.{IsSound, origin_of, nothing_stored, s
 ghost use Rattle.x12_station.specs.Stored.{closed_entry, closed_entry_with_group};
 ghost use Rattle.x12_station.specs.Stored.{submitted_bytes};
 ghost use Rattle.x12_station.specs.Plan.{Submits, Files, Agrees, changed, stored_after};
-ghost use Rattle.x12_station.specs.Record.{loaded_view, loaded_of, IsWholeEntry};
+ghost use Rattle.x12_station.specs.Record.{loaded_view, loaded_of, owner_view, IsWholeEntry};
 ghost use Rattle.x12_station.specs.Memory.{memory_view, rows_in, entries_in, filed_of, IsKeptWhole};
 ghost use Rattle.x12_station.specs.Memory.{RowsRise};
 
@@ -52,6 +52,26 @@ pub struct MemoryRecords {
 }
 
 impl MemoryRecords {
+    /// Records that hold nothing, of this owner: a station tells a history again over them, and reads
+    /// it as the owner's station does. Takes no memory.
+    pub fn read_so(alloc: Global, owner: Owner) -> MemoryRecords
+        ensures nothing { memory_view result ≡ nothing_stored (owner_view owner) }
+        ensures kept { IsKeptWhole result }
+        ensures durable { let hubs = owner.hub ∷ option_to_list owner.other in
+            IsHistoryOf owner.party hubs (memory_view result) }
+    {
+        MemoryRecords {
+            alloc,
+            owner,
+            book: Book::new(),
+            seq: 0,
+            agreements: Vec::new(alloc),
+            submitted: Vec::new(alloc),
+            arrivals: IndexMap::new(alloc),
+            postings: Vec::new(alloc),
+        }
+    }
+
     /// Records that hold nothing, of the station of this party at this hub, which may be connected
     /// to another one. Takes no memory.
     pub fn new(alloc: Global, party: Party, hub: Party, other: Option<Party>) -> MemoryRecords
@@ -60,16 +80,7 @@ impl MemoryRecords {
         ensures kept { IsKeptWhole result }
         ensures durable { IsHistoryOf party (hub ∷ option_to_list other) (memory_view result) }
     {
-        MemoryRecords {
-            alloc,
-            owner: Owner::new(party, hub, other),
-            book: Book::new(),
-            seq: 0,
-            agreements: Vec::new(alloc),
-            submitted: Vec::new(alloc),
-            arrivals: IndexMap::new(alloc),
-            postings: Vec::new(alloc),
-        }
+        MemoryRecords::read_so(alloc, Owner::new(party, hub, other))
     }
 
     /// Puts a submission behind the others.
@@ -179,6 +190,7 @@ impl MemoryRecords {
         ensures { IfOk result (λ l. loaded_view l ≡ loaded_of (memory_view self.now)) }
     {
         Ok(Loaded {
+            marks: self.owner.marks(),
             book: self.book,
             seq: self.seq,
             agreements: self.copied_agreements()?,

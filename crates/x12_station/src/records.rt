@@ -9,9 +9,11 @@ ghost use Rattle.x12_inbound.specs.Filing.{filed_under};
 ghost use Rattle.x12_inbound.specs.Posting.{posting_view};
 ghost use Rattle.x12_inbound.specs.Register.{posted_in};
 ghost use Rattle.x12_profile.specs.Stop.{CountsFailures, OnlyAsks, WritesWhole};
+ghost use Rattle.x12_profile.specs.Marking.{marks_view};
 ghost use Rattle.x12_station.specs.Durable.{item_at};
 ghost use Rattle.x12_station.specs.Stored.{Stored, IsSound, filed_in, stored_fate, closed_entry};
 ghost use Rattle.x12_station.specs.Stored.{closed_entry_with_group, submitted_bytes, origin_of};
+ghost use Rattle.x12_station.specs.Stored.{marks_of};
 ghost use Rattle.x12_station.specs.Plan.{stored_after};
 ghost use Rattle.x12_station.specs.Record.{loaded_view, loaded_of, owner_view, IsSoundLoaded};
 ghost use Rattle.x12_station.specs.Record.{history_item};
@@ -27,6 +29,7 @@ use x12_inbound::{Filed, Posting};
 use x12_judge::Agreement;
 use x12_numbers::Book;
 use x12_outbound::{Entry, Fate};
+use x12_profile::Marks;
 
 /// Why records answer nothing.
 #[derive(Clone, Copy, Debug, PartialEq, Eq, Error)]
@@ -42,6 +45,8 @@ pub enum StoreFault {
 /// What a station keeps in memory of its records.
 #[derive(Drop)]
 pub struct Loaded {
+    /// How far the history is judged and read in an older way.
+    pub marks: Marks,
     /// The last control numbers.
     pub book: Book,
     /// The last number of a submission or first arrival: 0 to 9223372036854775807.
@@ -82,6 +87,13 @@ impl Owner {
             noted: 0,
             era: 0,
         }
+    }
+
+    /// How far this owner's history is judged and read in an older way.
+    pub fn marks(&self) -> Marks
+        ensures { marks_view result ≡ marks_of (owner_view self.now) }
+    {
+        Marks { noted: self.noted }
     }
 }
 
@@ -254,7 +266,8 @@ pub trait Records {
         ensures same { IsTrue (answers self.new) → content self.new ≡ content self.old }
         // a database: the row of this number, of one table or of the other
         ensures found { IsTrue (answers self.new) → IfOk result (λ o.
-            option_map (history_item seq) o ≡ item_at (content self.old) seq) }
+            option_map (history_item (marks_of (content self.old).origin) seq) o
+            ≡ item_at (content self.old) seq) }
         ensures device { CountsFailures result (λ e. e ≡ StoreFault.Device)
             (failed self.old) (failed self.new) }
         ensures crash { OnlyAsks result (clean self.old) (clean self.new) (answers self.new)

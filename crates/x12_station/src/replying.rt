@@ -1,18 +1,18 @@
 //! What is kept of a new arrival: its reply, under the next control numbers, and its postings.
 
-ghost use Rattle.std.specs.Prelude.{◌≡◌, ◌≢◌, ◌+◌, map, IsTrue, Ok, IfOk, IfErr};
+ghost use Rattle.std.specs.Prelude.{◌≡◌, ◌≢◌, map, IsTrue, Ok, IfOk, IfErr};
 ghost use Rattle.x12_envelopes.specs.Header.{header_of};
 ghost use Rattle.x12_judge.specs.Agreement.{agreement_view};
 ghost use Rattle.x12_judge.specs.Verdict.{judgement_view};
 ghost use Rattle.x12_inbound.specs.Arrival.{arrival, arrived_view};
 ghost use Rattle.x12_inbound.specs.Filing.{reply_bytes};
 ghost use Rattle.x12_acks.specs.Reply.{due_reply};
-ghost use Rattle.x12_profile.specs.Edition.{edition_at, no_marks};
 ghost use Rattle.x12_profile.specs.X12.{judged_by, needs_of};
 ghost use Rattle.x12_profile.specs.Interchange.{book_for, is_within};
 ghost use Rattle.x12_station.specs.declared.fault.StationFault.TheVariants.{Exhausted, Memory, Store};
 ghost use Rattle.x12_station.specs.working.Drafting.{needs_view, exhausted, IsDraft};
 ghost use Rattle.x12_station.specs.Fault.{IsRowOrWant};
+ghost use Rattle.x12_station.specs.Keeps.{cached_edition};
 ghost use Rattle.x12_station.specs.StationRefusal.{is_spent};
 
 use crate::arrivals::copy_reply;
@@ -113,17 +113,17 @@ pub(crate) fn drafted(
 ) -> Result<Draft, StationFault>
     requires judged { let ags = map agreement_view memory.now.agreements.items in
         judgement_view judgement.now
-        ≡ judged_by (edition_at no_marks (memory.now.seq + 1)) memory.now.me ags header.now
+        ≡ judged_by (cached_edition memory.now) memory.now.me ags header.now
         (arrived_view arrived).bytes }
     requires read { header_of (arrived_view arrived).bytes ≡ Ok header.now }
     requires filed { arrived_view arrived
         ≡ arrival header.now.sender header.now.icn (arrived_view arrived).bytes }
-    ensures draft { IfOk result (λ d. IsDraft (edition_at no_marks (memory.now.seq + 1)) memory.now.me
+    ensures draft { IfOk result (λ d. IsDraft (cached_edition memory.now) memory.now.me
         (map agreement_view memory.now.agreements.items) at.now memory.now.book header.now
         (arrived_view arrived.entry).bytes d) }
 
     ensures spent { IfErr result (λ f. IsRowOrWant (exhausted (is_spent memory.now.book
-        (needs_of (edition_at no_marks (memory.now.seq + 1)) memory.now.me
+        (needs_of (cached_edition memory.now) memory.now.me
         (map agreement_view memory.now.agreements.items)
         (arrived_view arrived.entry).bytes header.now))) f) }
     ensures own { IfErr result (λ f. f ≢ Store) }

@@ -4,6 +4,7 @@ use mathlib.Core.Path.{sym, ap, subst, ◌∙◌}
 use mathlib.Core.Logic.{inl, inr}
 use Rattle.x12_envelopes.specs.declared.party.Party.{Party}
 use Rattle.x12_envelopes.specs.declared.moment.Moment.{Moment}
+use Rattle.x12_profile.specs.Edition.{no_marks}
 use Rattle.x12_profile.specs.Interchange.{Bytes, Order}
 use Rattle.x12_profile.specs.Profile.{Profile}
 use Rattle.x12_profile.specs.Laws.{Laws}
@@ -169,8 +170,8 @@ module _ (p : Profile) (laws : Laws p) (net : Network) (plain : All (λ party. I
       by true = submit_step i s (written_orders p s to m texts) at
       by false = λ eff e. absurd cc
 
-  silent_step : (i : ℕ) (s s' : Station) → StationAt w i s → s'.me ≡ s.me → s'.hubs ≡ s.hubs → s'.items ≡ s.items → s'.book ≡ s.book → DoesMaybe i (IsStation s) (quietly (IsStation s'))
-  silent_step i s s' at me hubs' items book eff e = subst (λ z. Does p t i (IsStation s) z.node z.sends) (some_inj e) (quiet p laws net plain w was i s at s' [] [] no_packets me hubs' items book (λ b h. none_in_nil b h))
+  silent_step : (i : ℕ) (s s' : Station) → StationAt w i s → s'.me ≡ s.me → s'.hubs ≡ s.hubs → s'.marks ≡ s.marks → s'.items ≡ s.items → s'.book ≡ s.book → DoesMaybe i (IsStation s) (quietly (IsStation s'))
+  silent_step i s s' at me hubs' marks items book eff e = subst (λ z. Does p t i (IsStation s) z.node z.sends) (some_inj e) (quiet p laws net plain w was i s at s' [] [] no_packets me hubs' marks items book (λ b h. none_in_nil b h))
 
   still_step : (k : ℕ) (h h' : Hub) → HubAt w k h → hubs.SameHub h h' → DoesMaybe k (IsHub h) (quietly (IsHub h'))
   still_step k h h' at same eff e = subst (λ z. Does p t k (IsHub h) z.node z.sends) (some_inj e) (still p laws net plain w was k h at h' same)
@@ -188,7 +189,7 @@ module _ (p : Profile) (laws : Laws p) (net : Network) (plain : All (λ party. I
   same_hub h = record { me = refl; decisions = refl; icn = refl }
 
   restart_does : (i : ℕ) (n : Node) → NodeAt i n → DoesMaybe i n (restart p n)
-  restart_does i (IsStation s) at eff e = silent_step i s (restarted p s) at refl refl refl refl eff e
+  restart_does i (IsStation s) at eff e = silent_step i s (restarted p s) at refl refl refl refl refl eff e
   restart_does i (IsHub h) at eff e = still_step i h h at (same_hub h) eff e
 
   -- what a node does of itself
@@ -197,7 +198,7 @@ module _ (p : Profile) (laws : Laws p) (net : Network) (plain : All (λ party. I
   acts_does i (Prepared x) = of_station i _ (λ s at. submit_step i s x at)
   acts_does i (Tick now) = of_station i _ (λ s at. from_station_does i s [] (Some (tick p s now)) (λ x some. subst (λ z. Does p t i (IsStation s) (IsStation z.station) ([] ++ deposits (site i) z.sends)) (some_inj some) (tick_does p laws net plain w was i s at now)))
   acts_does k (Collect i) = of_hub k _ (λ h at eff e. subst (λ z. Does p t k (IsHub h) z.node z.sends) (some_inj e) (collect_does p laws net plain w was k h at i))
-  acts_does i (Agree a) = of_station i _ (λ s at. silent_step i s _ at refl refl refl refl)
+  acts_does i (Agree a) = of_station i _ (λ s at. silent_step i s _ at refl refl refl refl refl)
   acts_does k (Enrol party i) = of_hub k _ (λ h at. still_step k h _ at (record { me = refl; decisions = refl; icn = refl }))
   acts_does k (Dismiss party) = of_hub k _ (λ h at. still_step k h _ at (record { me = refl; decisions = refl; icn = refl }))
   acts_does i Restart = restart_does i
@@ -315,6 +316,16 @@ module _ (p : Profile) (net : Network) (is : IsNetwork p net) where
       by (a_hub me number is) = absurd cc
       by (a_station m has home is) = ap (λ (z : Station). z.hubs) (inner is) ∙ ap (believed_at net.hub net.second) (sym home)
 
+  unmarked : (i : ℕ) (s : Station) → StationAt first i s → s.marks ≡ no_marks
+  unmarked i s at = by (new_is net i (IsStation s) at)
+    where
+      inner : {a b : Station} → IsStation a ≡ IsStation b → a ≡ b
+      inner e = cc
+
+      by : IsNew net i (IsStation s) → s.marks ≡ no_marks
+      by (a_hub me number is) = absurd cc
+      by (a_station m has home is) = ap (λ (z : Station). z.marks) (inner is)
+
   pub new_sound : Sound p net first
   new_sound = record {
     names = λ i. refl;
@@ -324,6 +335,7 @@ module _ (p : Profile) (net : Network) (is : IsNetwork p net) where
     hub_there = new_hub_at net;
     only_hubs = only_hubs;
     hubs = believes;
+    marks = unmarked;
     holds = record {
       names_apart = parties_apart p net is;
       named_or_not = party_or_none p net is;

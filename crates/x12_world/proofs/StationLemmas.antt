@@ -7,9 +7,11 @@ use mathlib.Core.Logic.{inl, inr}
 use native.Mathlib.Omega.{arith}
 use Rattle.std.proofs.lemmas.List.{append-nil}
 use Rattle.std.proofs.lemmas.List.Elements.{Contains-append_cases, Contains-append_right, All-contains}
-use Rattle.std.proofs.lemmas.Bool.Decides.{Decides-ltb}
+use Rattle.std.proofs.lemmas.Bool.Decides.{Decides-ltb, nat_tests}
 use Rattle.std.proofs.lemmas.Bool.{leb-true, and_parts}
 use Rattle.x12_envelopes.specs.declared.moment.Moment.{Moment}
+use Rattle.x12_profile.specs.declared.edition.Edition.TheVariants.{First, Second}
+use Rattle.x12_profile.specs.Edition.{Marks, edition_at, no_marks}
 use Rattle.x12_profile.specs.Interchange.{Bytes, Book, Needs, book_for, is_within}
 use Rattle.x12_profile.specs.Profile.{Profile}
 use Rattle.x12_profile.specs.Laws.{Laws, IsReply, IsTa1Refusal}
@@ -27,9 +29,8 @@ use Rattle.x12_station.proofs.ListLemmas.{contains_option, if_cases, contains_fi
 use Rattle.x12_numbers.proofs.Shelf.{none_in_nil, contains_cons, contains_head, bytes_eq_tells, if_some_parts, some_inj}
 use Rattle.x12_station.specs.StationRefusal.{prepared_refusal}
 use Rattle.x12_world.proofs.RefusalLemmas.{may_submit_known, is_none_known}
-use Rattle.x12_station.proofs.FateLemmas.{is_newest}
 use Rattle.x12_station.proofs.HistoryLemmas.{in_submissions, filed_found}
-use Rattle.x12_world.proofs.Traces.{Trace, IsBoxedFor, IsCarried, IsBy, IsSentIn, IsWritten, CameNews, ItemNews, FreshNews, LoadOk, Reason, submits, replies, notes, PacketOk}
+use Rattle.x12_world.proofs.Traces.{Trace, IsBoxedFor, IsCarried, IsBy, IsSentIn, IsWritten, CameNews, ItemNews, FreshNews, LoadOk, Reason, submits, replies, notes, newest, PacketOk}
 use Rattle.x12_world.proofs.WorldLemmas.{trace_of, Does, Sound, read, items_in, last_in, group_in, named_party}
 use Rattle.x12_core.specs.Effect.{deposits}
 use Rattle.x12_station.specs.StationStep.{open_submissions, StationStep, may_submit, entered, filed_now, arrive_new, arrive_other, arrive_at, arrive, is_open, tick}
@@ -47,6 +48,14 @@ gcn_up book needs = by needs.group
     by : (t : Bool) → book.group ≤ (if t then book.group + 1 else book.group)
     by true = omega arith
     by false = omega arith
+
+-- what comes next to a station without marks is read by the newest edition
+is_newest : (n : ℕ) → edition_at no_marks (n + 1) ≡ newest
+unfolding edition_at
+is_newest n = ap (λ b. if b then First else Second) (behind n)
+  where
+    behind : (n : ℕ) → nat_le (n + 1) 0 ≡ false
+    behind n = grind (arith, nat_tests)
 
 -- rising numbers are above the first and up to the last
 pub rising : (n : ℕ) (gs : List ℕ) → IsTrue (is_rising n gs) → (n ≤ latest_number n gs) × ((g : ℕ) → Contains gs g → (n < g) × (g ≤ latest_number n gs))
@@ -129,15 +138,15 @@ module _ (p : Profile) (laws : Laws p) (net : Network) (plain : All (λ party. I
   Known bs fresh = (b : Bytes) → Contains bs b → IsBy p t i b × (IsCarried t b ⊎ (fresh ≡ Some b))
 
   station_does : (s' : Station) (new : Option Item) (fresh : Option Bytes) (first : List Packet) (bs : List Bytes) → OnlyTaken first
-      → s'.me ≡ s.me → s'.hubs ≡ s.hubs → s'.items ≡ s.items ++ option_to_list new → s.book.interchange ≤ s'.book.interchange → s.book.group ≤ s'.book.group
+      → s'.me ≡ s.me → s'.hubs ≡ s.hubs → s'.marks ≡ s.marks → s'.items ≡ s.items ++ option_to_list new → s.book.interchange ≤ s'.book.interchange → s.book.group ≤ s'.book.group
       → ItemNews p t i s'.book.group fresh (first ++ deposits site bs) new → FreshNews p t i s'.book.interchange fresh → ((f : Bytes) → fresh ≡ Some f → Reason p t i new None f) → Known bs fresh
       → Does p t i (IsStation s) (IsStation s') (first ++ deposits site bs)
-  station_does s' new fresh first bs only me hubs items icn gcn item written reason known = record {
+  station_does s' new fresh first bs only me hubs marks items icn gcn item written reason known = record {
     new = new;
     decision = None;
     fresh = fresh;
     party = me;
-    kind = hubs;
+    kind = (hubs, marks);
     items = items;
     last = icn;
     group = gcn;
@@ -155,10 +164,10 @@ module _ (p : Profile) (laws : Laws p) (net : Network) (plain : All (λ party. I
   }
 
   -- a step that writes nothing and files nothing
-  pub quiet : (s' : Station) (first : List Packet) (bs : List Bytes) → OnlyTaken first → s'.me ≡ s.me → s'.hubs ≡ s.hubs → s'.items ≡ s.items → s'.book ≡ s.book → ((b : Bytes) → Contains bs b → IsBy p t i b × IsCarried t b)
+  pub quiet : (s' : Station) (first : List Packet) (bs : List Bytes) → OnlyTaken first → s'.me ≡ s.me → s'.hubs ≡ s.hubs → s'.marks ≡ s.marks → s'.items ≡ s.items → s'.book ≡ s.book → ((b : Bytes) → Contains bs b → IsBy p t i b × IsCarried t b)
       → Does p t i (IsStation s) (IsStation s') (first ++ deposits site bs)
-  quiet s' first bs only me hubs items book known =
-      station_does s' None None first bs only me hubs (items ∙ sym (append-nil s.items)) (rw book (omega arith)) (rw book (omega arith)) tt tt (λ f e. absurd cc) (λ b h. let k = known b h in (k.0, inl k.1))
+  quiet s' first bs only me hubs marks items book known =
+      station_does s' None None first bs only me hubs marks (items ∙ sym (append-nil s.items)) (rw book (omega arith)) (rw book (omega arith)) tt tt (λ f e. absurd cc) (λ b h. let k = known b h in (k.0, inl k.1))
 
   fresh_alone : (r : Bytes) → IsBy p t i r → Known (r ∷ []) (Some r)
   fresh_alone r by b h = elim (contains_cons b r [] h) [ inl e ↦ (subst (IsBy p t i) e by, inr (ap Some e)) | inr past ↦ none_in_nil b past ]
@@ -173,7 +182,7 @@ module _ (p : Profile) (laws : Laws p) (net : Network) (plain : All (λ party. I
       let rise = rising s.book.group (p.groups x) a.1 in
       let up = rise.0 in
       let by : IsBy p t i x = name_is ∙ ap Some (sym may.from) in
-      station_does (entered p s x) (Some (Submitted x)) (Some x) [] (x ∷ []) (record { each = λ q h. none_in_nil q h }) refl refl refl (omega arith) up
+      station_does (entered p s x) (Some (Submitted x)) (Some x) [] (x ∷ []) (record { each = λ q h. none_in_nil q h }) refl refl refl refl (omega arith) up
       (record { submission = may.submission; from = s.book.group; rises = a.1; groups = λ g h. let r = rise.1 g h in (rw group_is r.0, r.1) }, refl, sent_in_deposits site [] x)
       (by, rw last_is above, omega arith)
       (λ f e. let same : x ≡ f = cc in submits (ap (λ z. Some (Submitted z)) same))
@@ -181,14 +190,14 @@ module _ (p : Profile) (laws : Laws p) (net : Network) (plain : All (λ party. I
 
   module _ (m : Moment) (b : Bytes) (brought : Brought p t i b) (header : IsTrue (p.has_header b)) (first : List Packet) (only : OnlyTaken first) where
     came : filed p s.items (p.sender b) (p.number b) ≡ None → CameNews p t i (edition_next s) b
-    came none = record { by_newest = is_newest (length s.items); ok = record { header = header; carried = brought.carried; routed = brought.routed }; first = rw items_is none }
+    came none = record { by_newest = ap (λ (k : Marks). edition_at k (length s.items + 1)) (was.marks i s at) ∙ is_newest (length s.items); ok = record { header = header; carried = brought.carried; routed = brought.routed }; first = rw items_is none }
 
     abbrev DoesStep : StationStep → Type 0
     DoesStep step = Does p t i (IsStation s) (IsStation step.station) (first ++ deposits site step.sends)
 
     -- a first arrival that gets no reply
     silent_does : filed p s.items (p.sender b) (p.number b) ≡ None → DoesStep (record { station = filed_now p s b None s.book; sends = [] })
-    silent_does none = station_does (filed_now p s b None s.book) (Some (Came (edition_next s) b None)) None first [] only refl refl refl (omega arith) (omega arith) (came none) tt (λ f e. absurd cc) (λ c h. none_in_nil c h)
+    silent_does none = station_does (filed_now p s b None s.book) (Some (Came (edition_next s) b None)) None first [] only refl refl refl refl (omega arith) (omega arith) (came none) tt (λ f e. absurd cc) (λ c h. none_in_nil c h)
 
     -- a first arrival, and its reply
     reply_does : filed p s.items (p.sender b) (p.number b) ≡ None → (book : Book) → book.interchange ≡ s.book.interchange + 1 → s.book.group ≤ book.group → (IsTrue (p.needs (edition_next s) s.me s.agreements b).group → 1 ≤ book.group) → IsTrue (p.needs (edition_next s) s.me s.agreements b).reply → IsTrue (is_within book)
@@ -199,7 +208,7 @@ module _ (p : Profile) (laws : Laws p) (net : Network) (plain : All (λ party. I
         let number = laws.reply.number s.me s.agreements b r reply in
         let last = last_is in
         let by : IsBy p t i r = name_is ∙ ap Some (sym (laws.reply.from s.me s.agreements b r reply)) in
-        station_does (filed_now p s b (Some r) book) (Some (Came (edition_next s) b (Some r))) (Some r) first (r ∷ []) only refl refl refl (omega arith) gcn
+        station_does (filed_now p s b (Some r) book) (Some (Came (edition_next s) b (Some r))) (Some r) first (r ∷ []) only refl refl refl refl (omega arith) gcn
         (came none, record { me = s.me; at = name_is; agreements = s.agreements; reply = reply }, refl, sent_in_deposits site first r)
         (by, omega arith, omega arith)
         (λ f e. let same : r ≡ f = cc in replies b (edition_next s, ap (λ z. Some (Came (edition_next s) b (Some z))) same))
@@ -222,14 +231,14 @@ module _ (p : Profile) (laws : Laws p) (net : Network) (plain : All (λ party. I
         let number = laws.refusal.number s.me b r refusal in
         let last = last_is in
         let by : IsBy p t i r = name_is ∙ ap Some (sym (laws.refusal.from s.me b r refusal)) in
-        station_does (record s { book = book }) None (Some r) first (r ∷ []) only refl refl (sym (append-nil s.items)) (omega arith) gcn tt
+        station_does (record s { book = book }) None (Some r) first (r ∷ []) only refl refl refl (sym (append-nil s.items)) (omega arith) gcn tt
         (by, omega arith, omega arith)
         (λ g e. let same : r ≡ g = cc in notes b s.me (no_node f found other) (subst (IsTa1Refusal p s.me b) same refusal))
         (fresh_alone r by)
 
     -- the kept reply was sent before
     same_does : (f : KeptArrival) → filed p s.items (p.sender b) (p.number b) ≡ Some f → DoesStep (record { station = s; sends = option_to_list f.reply })
-    same_does f found = quiet s first (option_to_list f.reply) only refl refl refl refl (λ r h.
+    same_does f found = quiet s first (option_to_list f.reply) only refl refl refl refl refl (λ r h.
         let kept : f.reply ≡ Some r = contains_option f.reply r h in
         let is = filed_found p s.items (p.sender b) (p.number b) f found in
         let ok = was.holds.reply i f.body r (in_came f.body (Some r) (subst (λ k. HasCame s.items f.body k) kept is.0)) in
@@ -252,7 +261,7 @@ module _ (p : Profile) (laws : Laws p) (net : Network) (plain : All (λ party. I
         let book : Book = book_for s.book (record { reply = true; group = false }) in
         let r : Bytes = p.refusal 25 s.me m book.interchange b in
         elim (if_cases (p.is_silent b) (Some (record { station = s; sends = [] })) (if is_within book then Some (record { station = record s { book = book }; sends = r ∷ [] }) else None) (Some step) e) [
-          | inl quiet_one ↦ subst DoesStep (some_inj quiet_one.1) (quiet s first [] only refl refl refl refl (λ c h. none_in_nil c h))
+          | inl quiet_one ↦ subst DoesStep (some_inj quiet_one.1) (quiet s first [] only refl refl refl refl refl (λ c h. none_in_nil c h))
           | inr loud ↦
               let ok = if_some_parts (is_within book) (Some (record { station = record s { book = book }; sends = r ∷ [] })) step loud.1 in
               subst DoesStep (some_inj ok.1) (note_does f found other book refl (omega arith) ok.0)
@@ -275,7 +284,7 @@ module _ (p : Profile) (laws : Laws p) (net : Network) (plain : All (λ party. I
 
   -- a tick sends submissions alone
   pub tick_does : (now : ℕ) → Does p t i (IsStation s) (IsStation (tick p s now).station) ([] ++ deposits site (tick p s now).sends)
-  tick_does now = quiet (tick p s now).station [] (tick p s now).sends (record { each = λ q h. none_in_nil q h }) refl refl refl refl (λ x h.
+  tick_does now = quiet (tick p s now).station [] (tick p s now).sends (record { each = λ q h. none_in_nil q h }) refl refl refl refl refl (λ x h.
       let due = contains_filter (λ y. nat_le (schedule_of s.sendings (p.number y)).due (tick_seen s.tick now)) (open_submissions p s) x h in
       let open_one = contains_filter (is_open p s) (submissions s.items) x due in
       let ok = was.holds.sent i x (in_items (Submitted x) (in_submissions s.items x open_one)) in

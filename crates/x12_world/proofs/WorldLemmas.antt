@@ -6,6 +6,7 @@ use native.Mathlib.Omega.{arith}
 use Rattle.std.proofs.lemmas.List.{map-append, append-nil, append_assoc}
 use Rattle.std.proofs.lemmas.Bool.Decides.{eqb_tells}
 use Rattle.x12_envelopes.specs.declared.party.Party.{Party}
+use Rattle.x12_profile.specs.Edition.{no_marks}
 use Rattle.x12_profile.specs.Interchange.{Bytes}
 use Rattle.x12_profile.specs.Profile.{Profile}
 use Rattle.x12_station.specs.History.{Item}
@@ -60,12 +61,12 @@ trace_of w = record {
   packets = packets_of w;
 }
 
--- a hub stays a hub, and a station a station that believes the same hubs
+-- a hub stays a hub, and a station a station that believes the same hubs, with the same marks
 abbrev pub SameKind : Node → Node → Type 0
 SameKind (IsHub h) (IsHub k) = Unit {0}
 SameKind (IsHub h) (IsStation s) = ⊥
 SameKind (IsStation s) (IsHub h) = ⊥
-SameKind (IsStation s) (IsStation r) = r.hubs ≡ s.hubs
+SameKind (IsStation s) (IsStation r) = (r.hubs ≡ s.hubs) × (r.marks ≡ s.marks)
 
 module _ (p : Profile) where
   -- what node i, from n to n', does to the trace
@@ -91,6 +92,7 @@ module _ (p : Profile) where
     pub hub_there : (i : ℕ) → IsHubNumber net.second i → (h : Hub) × HubAt w i h
     pub only_hubs : (i : ℕ) (h : Hub) → HubAt w i h → IsHubNumber net.second i
     pub hubs : (i : ℕ) (s : Station) → StationAt w i s → s.hubs ≡ believed_at net.hub net.second (home_of w.nodes i)
+    pub marks : (i : ℕ) (s : Station) → StationAt w i s → s.marks ≡ no_marks
     pub holds : Holds p (trace_of w)
 
 -- the party of a node is one of the network's
@@ -166,11 +168,11 @@ module _ (p : Profile) (net : Network) (w : World) (i : ℕ) (n : Node) (at : no
     news = rw here does.news;
   }
 
-  station_kind : (m m' : Node) (s' : Station) → SameKind m m' → m' ≡ IsStation s' → (s : Station) × (m ≡ IsStation s) × (s'.hubs ≡ s.hubs)
+  station_kind : (m m' : Node) (s' : Station) → SameKind m m' → m' ≡ IsStation s' → (s : Station) × (m ≡ IsStation s) × (s'.hubs ≡ s.hubs) × (s'.marks ≡ s.marks)
   station_kind (IsHub h) (IsHub k) s' same is = absurd cc
   station_kind (IsHub h) (IsStation r) s' same is = absurd same
   station_kind (IsStation s) (IsHub h) s' same is = absurd same
-  station_kind (IsStation s) (IsStation r) s' same is = let r_is : r ≡ s' = cc in (s, refl, subst (λ z. z.hubs ≡ s.hubs) r_is same)
+  station_kind (IsStation s) (IsStation r) s' same is = let r_is : r ≡ s' = cc in (s, refl, subst (λ z. z.hubs ≡ s.hubs) r_is same.0, subst (λ z. z.marks ≡ s.marks) r_is same.1)
 
   hub_kind : (m m' : Node) (h' : Hub) → SameKind m m' → m' ≡ IsHub h' → (h : Hub) × (m ≡ IsHub h)
   hub_kind (IsHub h) (IsHub k) h' same is = (h, refl)
@@ -226,6 +228,17 @@ module _ (p : Profile) (net : Network) (w : World) (i : ℕ) (n : Node) (at : no
     | inr apart ↦ was.hubs j s (sym (else j apart.1) ∙ is)
   ])
 
+  marks_after : Sound p net w → (j : ℕ) (s : Station) → StationAt after j s → s.marks ≡ no_marks
+  marks_after was j s is = elim (eqb_tells j i) [
+    | inl same ↦
+        let there : node_at after.nodes i ≡ Some (IsStation s) = subst (λ k. node_at after.nodes k ≡ Some (IsStation s)) same.1 is in
+        let both : Some e.node ≡ Some (IsStation s) = sym here ∙ there in
+        let now : e.node ≡ IsStation s = cc in
+        let old = station_kind n e.node s does.kind now in
+        old.3 ∙ was.marks i old.0 (at ∙ ap Some old.1)
+    | inr apart ↦ was.marks j s (sym (else j apart.1) ∙ is)
+  ]
+
   pub sound_by : Sound p net w → Sound p net after
   sound_by was = record {
     names = λ j. parties_same w.nodes i n e.node at does.party j ∙ was.names j;
@@ -235,6 +248,7 @@ module _ (p : Profile) (net : Network) (w : World) (i : ℕ) (n : Node) (at : no
     hub_there = hub_after was;
     only_hubs = only_after was;
     hubs = hubs_after was;
+    marks = marks_after was;
     holds = holds_after p (trace_of w) (trace_of after) grows_by was.holds;
   }
 
@@ -245,7 +259,7 @@ module _ (p : Profile) (net : Network) (w : World) (i : ℕ) (n : Node) (at : no
   station_now (IsStation z) (IsHub h) s new same party items is = absurd same
   station_now (IsStation z) (IsStation r) s new same party items is =
       let z_is : z ≡ s = cc in
-      (r, refl, party ∙ ap (λ y. y.me) z_is, same ∙ ap (λ y. y.hubs) z_is, items ∙ ap (λ y. y.items ++ option_to_list new) z_is)
+      (r, refl, party ∙ ap (λ y. y.me) z_is, same.0 ∙ ap (λ y. y.hubs) z_is, items ∙ ap (λ y. y.items ++ option_to_list new) z_is)
 
   pub later_by : IsLater w after
   later_by j s is = elim (eqb_tells j i) [

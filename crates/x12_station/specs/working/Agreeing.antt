@@ -14,6 +14,7 @@ stored_agreed a s = stored_after (record { book = s.book; seq = s.seq; change = 
 pub record IsSameBeside (old new : Cached) : Type 0 where
   pub me : new.me ≡ old.me
   pub hubs : new.hubs ≡ old.hubs
+  pub marks : new.marks ≡ old.marks
   pub book : new.book ≡ old.book
   pub seq : new.seq ≡ old.seq
   pub ledger : new.ledger ≡ old.ledger

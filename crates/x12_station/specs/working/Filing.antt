@@ -31,6 +31,7 @@ plan_of_filing m last f p = record {
 pub record TakesFiling (old new : Cached) (last : Numbers) (p : Plan) (told : Counts) : Type 0 where
   pub me : new.me ≡ old.me
   pub hubs : new.hubs ≡ old.hubs
+  pub marks : new.marks ≡ old.marks
   pub agreements : new.agreements ≡ old.agreements
   pub book : new.book ≡ last
   pub seq : new.seq ≡ old.seq + 1

@@ -8,6 +8,7 @@ use Rattle.x12_outbound.specs.declared.hubs.Hubs.{Hubs}
 use Rattle.x12_outbound.specs.Hubs.{hubs_of}
 use Rattle.x12_outbound.specs.Ledger.{OutboundLedger, LedgerRow}
 use Rattle.x12_outbound.specs.Schedule.{unsent_schedule}
+use Rattle.x12_profile.specs.Marking.{marks_view}
 use Rattle.x12_station.specs.declared.cached.Cached.{Cached}
 use Rattle.x12_station.specs.Record.{Loaded}
 
@@ -27,6 +28,7 @@ pub record IsLedgerOf (me : Party) (its : Hubs) (es : List InterchangeRow)
 pub record IsTakenIn (party : Party) (its : Hubs) (l : Loaded) (m : Cached) : Type 0 where
   pub me : m.me ≡ party
   pub hubs : m.hubs ≡ its
+  pub marks : marks_view m.marks ≡ l.marks
   pub book : m.book ≡ l.book
   pub seq : m.seq ≡ l.seq
   pub agreements : map agreement_view m.agreements.items ≡ l.agreements

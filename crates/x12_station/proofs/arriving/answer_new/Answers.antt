@@ -1,10 +1,9 @@
-use Rattle.std.proofs.Common.{rules, ◌+◌, ◌||◌, ◌∙◌, ap, map, refl, sym, subst, nat_le}
+use Rattle.std.proofs.Common.{rules, ◌||◌, ◌∙◌, ap, map, refl, sym, subst, nat_le}
 use Rattle.x12_outbound.specs.Hubs.{hubs_of}
 use Rattle.x12_station.specs.declared.cached.Cached.{Cached}
 use Rattle.x12_station.specs.Entering.{IsHeld}
-use Rattle.x12_station.specs.Keeps.{IsReady, memory_of}
+use Rattle.x12_station.specs.Keeps.{IsReady, cached_edition, memory_of}
 use Rattle.x12_judge.specs.Agreement.{agreement_view}
-use Rattle.x12_profile.specs.Edition.{edition_at, no_marks}
 use Rattle.x12_profile.specs.X12.{needs_of}
 use Rattle.x12_station.specs.working.Drafting.{exhausted}
 use Rattle.x12_station.specs.StationRefusal.{is_spent}
@@ -75,7 +74,7 @@ returns-in-Ok-file-clause-took g c = λ answers.
 pub returns-in-Err-file-clause-fault : goal.returns-in-Err-file-clause-fault
 returns-in-Err-file-clause-fault g c =
     let m = c.args.memory.now in
-    c.in-Err-file.ensures.fault.0 (exhausted (is_spent m.book (needs_of (edition_at no_marks (m.seq + 1)) m.me (map agreement_view m.agreements.items) c.args.bytes.now c.args.header.now) || nat_le 9223372036854775807 m.seq))
+    c.in-Err-file.ensures.fault.0 (exhausted (is_spent m.book (needs_of (cached_edition m) m.me (map agreement_view m.agreements.items) c.args.bytes.now c.args.header.now) || nat_le 9223372036854775807 m.seq))
 
 -- nothing was filed; the plan may stand in the log all the same
 pub returns-in-Err-file-clause-stands : goal.returns-in-Err-file-clause-stands

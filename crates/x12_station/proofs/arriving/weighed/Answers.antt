@@ -1,13 +1,13 @@
-use Rattle.std.proofs.Common.{◌+◌, map}
+use Rattle.std.proofs.Common.{map}
 use Rattle.x12_judge.specs.Agreement.{agreement_view}
-use Rattle.x12_profile.specs.Edition.{edition_at, no_marks}
 use Rattle.x12_profile.specs.X12.{needs_of}
+use Rattle.x12_station.specs.Keeps.{cached_edition}
 use Rattle.x12_station.specs.working.Drafting.{exhausted}
 use Rattle.x12_station.specs.StationRefusal.{is_spent}
 use Rattle.x12_station.proofs.arriving.weighed.Goals as goal
 
 pub returns-in-Err-clause-fault : goal.returns-in-Err-clause-fault
-returns-in-Err-clause-fault g c = c.in-Err.ensures.fault (exhausted (is_spent c.args.memory.now.book (needs_of (edition_at no_marks (c.args.memory.now.seq + 1)) c.args.memory.now.me (map agreement_view c.args.memory.now.agreements.items) c.args.bytes.now c.args.header.now)))
+returns-in-Err-clause-fault g c = c.in-Err.ensures.fault (exhausted (is_spent c.args.memory.now.book (needs_of (cached_edition c.args.memory.now) c.args.memory.now.me (map agreement_view c.args.memory.now.agreements.items) c.args.bytes.now c.args.header.now)))
 
 pub returns-clause-device : goal.returns-clause-device
 returns-clause-device g c = record {

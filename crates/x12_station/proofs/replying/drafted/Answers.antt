@@ -1,9 +1,9 @@
-use Rattle.std.proofs.Common.{◌+◌, ◌∙◌, ap, sym, map}
+use Rattle.std.proofs.Common.{◌∙◌, ap, sym, map}
 use Rattle.x12_inbound.specs.Arrival.{arrived_view}
-use Rattle.x12_profile.specs.Edition.{edition_at, no_marks}
 use Rattle.x12_profile.proofs.FieldLemmas as field
 use Rattle.x12_judge.specs.Agreement.{agreement_view}
 use Rattle.x12_judge.specs.Verdict.{judgement_view}
+use Rattle.x12_station.specs.Keeps.{cached_edition}
 use Rattle.x12_station.proofs.DraftLemmas.{group_is_due}
 use Rattle.x12_station.proofs.replying.drafted.Goals as goal
 
@@ -20,6 +20,6 @@ judge-requires c = record {
   icn = ap (λ a. a.icn) (sym c.requires.filed);
   judgement =
       c.requires.judged
-      ∙ field.is_first (edition_at no_marks (c.args.memory.now.seq + 1)) c.args.memory.now.me (map agreement_view c.args.memory.now.agreements.items) c.args.header.now (arrived_view c.args.arrived).bytes;
+      ∙ field.is_first (cached_edition c.args.memory.now) c.args.memory.now.me (map agreement_view c.args.memory.now.agreements.items) c.args.header.now (arrived_view c.args.arrived).bytes;
   reply = record { at = c.args.at.now; icn = c.in_ok-book.book.interchange; gcn = c.in_ok-book.book.group; is = c.in_ok-reply.ensures };
 }

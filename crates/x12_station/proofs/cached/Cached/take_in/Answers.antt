@@ -9,7 +9,7 @@ ledger_of-requires c = c.requires.sound.in_order c.args.me
 
 pub returns-clause-taken : goal.returns-clause-taken
 unfolding Rattle.x12_outbound.specs.Counts.only_unclear
-returns-clause-taken c = record { me = refl; hubs = refl; book = refl; seq = refl; agreements = refl; ledger = c.in_ok-ledger_of.ensures; counts = refl }
+returns-clause-taken c = record { me = refl; hubs = refl; marks = refl; book = refl; seq = refl; agreements = refl; ledger = c.in_ok-ledger_of.ensures; counts = refl }
 
 pub returns-clause-ready : goal.returns-clause-ready
 returns-clause-ready c =

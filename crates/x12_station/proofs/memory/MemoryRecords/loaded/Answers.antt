@@ -6,5 +6,5 @@ use Rattle.x12_station.proofs.memory.MemoryRecords.loaded.Goals as goal
 
 pub returns : goal.returns
 returns c =
-    loaded_same c.args.self.now.book c.args.self.now.seq _ _ _ _ c.in_ok-copied_agreements.ensures
+    loaded_same _ _ c.args.self.now.book c.args.self.now.seq _ _ _ _ c.marks.ensures c.in_ok-copied_agreements.ensures
     (c.in_ok-open_entries.ensures ∙ open_is c.args.self.now c.requires c.deref.result.now c.deref.ensures.value)
