@@ -14,11 +14,11 @@ use Rattle.x12_inbound.specs.Order.{interchange, is_same_interchange}
 use Rattle.x12_inbound.specs.Register.{is_under}
 use Rattle.x12_numbers.proofs.Shelf.{all_from_contains, contains_cons, contains_head, contains_mapped, found_passes, map_twice, none_in_nil}
 use Rattle.x12_outbound.specs.Entry.{InterchangeRow}
-use Rattle.x12_profile.specs.Edition.{edition_at, no_marks}
+use Rattle.x12_profile.specs.Edition.{edition_at}
 use Rattle.x12_profile.specs.X12.{x12}
 use Rattle.x12_station.specs.Durable.{IsFiledRightly, IsAnsweredRightly, IsHistoryOf, IsOwnSubmission, WasAnswered, fared_entries, items_of}
 use Rattle.x12_station.specs.History.{HasCame, Item, Submitted, Came, KeptArrival, postings, submissions}
-use Rattle.x12_station.specs.Stored.{AreNumbered, IsSound, Stored, StoredArrival, entries, entry_of_row, origin_of}
+use Rattle.x12_station.specs.Stored.{AreNumbered, IsSound, Origin, Stored, StoredArrival, entries, entry_of_row, marks_of}
 use Rattle.x12_station.proofs.EntryLemmas.{entries_rise}
 use Rattle.x12_station.proofs.HistoryLemmas.{came_later, in_submissions}
 use Rattle.x12_station.proofs.ItemLemmas.{arrivals_are, came, came_are, filed_of_row, submissions_are}
@@ -111,10 +111,12 @@ module _ (me : Party) (hubs : List Party) (s d : Stored) (sound : IsSound s) (wr
       icn = ap (λ (f : FiledInterchange). f.icn) (filed_is r at);
     })
 
-    pub answered_are : All (IsAnsweredRightly me s.book) s.arrived
-    answered_are = all_from_contains (IsAnsweredRightly me s.book) s.arrived (λ r at. ∣ subst (WasAnswered (edition_at no_marks r.seq) me s.book) (sym (filed_is r at)) ((right_arrival r at).answered (edition_at no_marks r.seq)) ∣₁)
+    pub answered_are : All (IsAnsweredRightly (marks_of s.origin) me s.book) s.arrived
+    answered_are = all_from_contains (IsAnsweredRightly (marks_of s.origin) me s.book) s.arrived (λ r at.
+        let by = edition_at (marks_of s.origin) r.seq in
+        ∣ subst (WasAnswered by me s.book) (sym (filed_is r at)) ((right_arrival r at).answered by) ∣₁)
 
-    pub history_is : s.origin ≡ origin_of me hubs → All (IsRightSubmission (entries s) (entries d)) (items_of d) → s.postings ≡ postings x12 (items_of s) → IsHistoryOf me hubs s
+    pub history_is : (s.origin.me ≡ me) × (s.origin.hubs ≡ hubs) → All (IsRightSubmission (entries s) (entries d)) (items_of d) → s.postings ≡ postings x12 (items_of s) → IsHistoryOf me hubs s
     history_is origin stand posted = record {
       sound = sound;
       origin = origin;
@@ -126,8 +128,9 @@ module _ (me : Party) (hubs : List Party) (s d : Stored) (sound : IsSound s) (wr
     }
 
 -- Records that were told whole, of which no posting is left.
-pub held_history : (s d : Stored) (me : Party) (hubs : List Party) (all left : List AcceptedSet) → IsSound s → s.origin ≡ origin_of me hubs → HoldsTold s d me hubs s.book s.seq all left → left ≡ []
-    → all ≡ s.postings → All (IsRightSubmission (entries s) (entries d)) (items_of d) → IsHistoryOf me hubs s
-held_history s d me hubs all left sound origin told none kept stand =
-    history_is me hubs s d sound told.wrote (told.items ∙ ap all_as_told (all_items s)) (subst (All (IsRightItem s me s.book)) (all_items s) told.right) origin stand
+pub held_history : (s d : Stored) (o : Origin) (all left : List AcceptedSet) → IsSound s → s.origin ≡ o → HoldsTold s d o s.book s.seq all left → left ≡ []
+    → all ≡ s.postings → All (IsRightSubmission (entries s) (entries d)) (items_of d) → IsHistoryOf o.me o.hubs s
+held_history s d o all left sound origin told none kept stand =
+    history_is o.me o.hubs s d sound told.wrote (told.items ∙ ap all_as_told (all_items s)) (subst (All (IsRightItem s o.me s.book)) (all_items s) told.right)
+    (ap (λ (q : Origin). q.me) origin, ap (λ (q : Origin). q.hubs) origin) stand
     (sym kept ∙ told.posted ∙ ap (λ l. postings x12 (items_up_to s s.seq) ++ l) none ∙ append-nil (postings x12 (items_up_to s s.seq)) ∙ ap (postings x12) (all_items s))

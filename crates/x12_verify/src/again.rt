@@ -4,7 +4,7 @@
 ghost use Rattle.std.specs.Prelude.{◌≡◌, ◌∷◌, ◌++◌, [], None, IsTrue, OnOk};
 ghost use Rattle.x12_station.specs.History.{Submitted, Came};
 ghost use Rattle.x12_station.specs.Station.{edition_next};
-ghost use Rattle.x12_verify.specs.Told.{all_as_told, HasSameParties};
+ghost use Rattle.x12_verify.specs.Told.{all_as_told, HasSameOrigin};
 
 use crate::difference::{Difference, Stop};
 use x12_envelopes::Moment;
@@ -26,8 +26,8 @@ pub(crate) fn submit_again(again: &mut Again, number: u64, bytes: &[u8]) -> Resu
     ensures never_won_back { IsTrue again.new.answers → IsTrue again.old.answers }
     ensures told { IsTrue again.new.answers → OnOk result (all_as_told again.new.state.items
         ≡ all_as_told again.old.state.items ++ Submitted bytes.now ∷ []) }
-    ensures parties { IsTrue again.new.answers →
-        OnOk result (HasSameParties again.old.state again.new.state) }
+    ensures origin { IsTrue again.new.answers →
+        OnOk result (HasSameOrigin again.old.state again.new.state) }
 {
     match again.submit_prepared(bytes) {
         Ok(_) => Ok(()),
@@ -46,8 +46,8 @@ pub(crate) fn hear_again(
     ensures told { IsTrue again.new.answers → OnOk result (all_as_told again.new.state.items
         ≡ all_as_told again.old.state.items
         ++ Came (edition_next again.old.state) bytes.now None ∷ []) }
-    ensures parties { IsTrue again.new.answers →
-        OnOk result (HasSameParties again.old.state again.new.state) }
+    ensures origin { IsTrue again.new.answers →
+        OnOk result (HasSameOrigin again.old.state again.new.state) }
 {
     let arrival = match again.arrive(bytes, at) {
         Ok(arrival) => arrival,

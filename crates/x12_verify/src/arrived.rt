@@ -20,16 +20,16 @@ use crate::due::{Due, find_due};
 use crate::posted::{Postings, keep, strip};
 use std::alloc::{AllocError, Global};
 use x12_acks::ReplyHeader;
-use x12_envelopes::{Header, Moment, OutlineFault, Party, outline, read_header};
+use x12_envelopes::{Header, Moment, OutlineFault, outline, read_header};
 use x12_inbound::Filed;
-use x12_station::{Loaded, Records};
+use x12_station::{Loaded, Owner, Records};
 
 /// Whose records are verified, and what they have in force.
 #[derive(Clone, Copy)]
 pub(crate) struct Holder<'a> {
     pub alloc: Global,
-    /// Their station's party.
-    pub me: Party,
+    /// Whose they say that they are.
+    pub owner: Owner,
     /// The moment of what no reply dates.
     pub at: Moment,
     /// The last numbers, the agreements and the open submissions.
@@ -99,7 +99,7 @@ fn numbers_of(holder: &Holder<'_>, number: u64, filed: &Filed) -> Result<(u32, u
 /// What the header segments of a kept reply say, whose numbers were used; its moment is that of the
 /// holder.
 fn own_of(holder: &Holder<'_>, number: u64, filed: &Filed) -> Result<ReplyHeader, Stop>
-    ensures me { IfOk result (λ own. own.me ≡ holder.now.me) }
+    ensures me { IfOk result (λ own. own.me ≡ holder.now.owner.party) }
     ensures icn { IfOk result (λ own. (own.icn ≤ holder.now.loaded.now.book.interchange)
         × (own.icn ≤ 999999999)) }
     ensures gcn { IfOk result (λ own. (own.gcn ≤ holder.now.loaded.now.book.group) × (own.gcn ≤ 999999999)) }
@@ -109,7 +109,7 @@ fn own_of(holder: &Holder<'_>, number: u64, filed: &Filed) -> Result<ReplyHeader
         return Err(Stop::Differs(Difference::Number(number)));
     }
     Ok(ReplyHeader {
-        me: holder.me,
+        me: holder.owner.party,
         at: holder.at,
         icn,
         gcn,
@@ -151,10 +151,10 @@ pub(crate) fn take_arrival<'a, R: Records>(
     postings: Postings<'a>,
 ) -> Result<Postings<'a>, Stop>
     requires valid { R.valid records.old }
-    requires plain { IsTrue (is_plain_party holder.now.me) }
+    requires plain { IsTrue (is_plain_party holder.now.owner.party) }
     ensures asked { WereAsked R.Records records.old records.new }
     ensures right { IsTrue (R.answers records.new) → OnOk result
-        (IsRightArrival (R.content records.old) holder.now.me holder.now.loaded.now.book
+        (IsRightArrival (R.content records.old) holder.now.owner.party holder.now.loaded.now.book
         filed.now.bytes.items (reply_bytes filed.now.reply)) }
     ensures posted { IfOk result (λ more. map posting_view postings.entry.left.now
         ≡ posted_by x12 (Came Second filed.now.bytes.items (reply_bytes filed.now.reply))

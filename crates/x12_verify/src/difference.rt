@@ -9,8 +9,7 @@ use x12_station::{StationFault, StoreFault};
 /// submission or first arrival, from 1.
 #[derive(Clone, Copy)]
 pub enum Difference {
-    /// They name a party that no station can have, or a number up to which arrivals are read
-    /// otherwise.
+    /// They name a party that no station can have.
     Owner,
     /// Nothing has this number.
     Missing(u64),

@@ -81,7 +81,7 @@ fn test_bytes<R: Records, T: Records>(
     if due.bytes.as_slice() == bytes && is_same_entry(&kept, &due) {
         return Ok(());
     }
-    Err(Stop::Differs(difference_of(&holder.me, &kept, &due)))
+    Err(Stop::Differs(difference_of(&holder.owner.party, &kept, &due)))
 }
 
 /// Tests what was told under this number, if it is a submission.

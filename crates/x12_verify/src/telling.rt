@@ -1,9 +1,10 @@
 //! The items of a history, told again one by one.
 
-ghost use Rattle.std.specs.Prelude.{◌≤◌, ◌-◌, ◌^◌, IsTrue, IfOk, map};
+ghost use Rattle.std.specs.Prelude.{◌≡◌, ◌≤◌, ◌+◌, ◌-◌, ◌^◌, [], IsTrue, IfOk, length, map};
 ghost use Rattle.x12_envelopes.specs.Party.{is_plain_party};
 ghost use Rattle.x12_inbound.specs.Posting.{posting_view};
 ghost use Rattle.x12_station.specs.Standing.{WereAsked};
+ghost use Rattle.x12_station.specs.Stored.{marks_of};
 ghost use Rattle.x12_verify.specs.Told.{IsTold, AreTold};
 
 use crate::again::{Again, hear_again, submit_again};
@@ -31,12 +32,15 @@ fn tell_item<'a, R: Records>(
     telling: Telling<'a>,
 ) -> Result<Telling<'a>, Stop>
     requires valid { R.valid records.old }
-    requires plain { IsTrue (is_plain_party holder.now.me) }
-    requires counted { 1 ≤ number }
+    requires plain { IsTrue (is_plain_party holder.now.owner.party) }
+    requires place { IsTrue (R.answers records.old) → IsTrue again.old.answers →
+        length again.old.state.items + 1 ≡ number }
+    requires marks { IsTrue (R.answers records.old) → IsTrue again.old.answers →
+        again.old.state.marks ≡ marks_of (R.content records.old).origin }
     ensures asked { WereAsked R.Records records.old records.new }
     ensures never_won_back { IsTrue again.new.answers → IsTrue again.old.answers }
     ensures told { IsTrue (R.answers records.new) → IsTrue again.new.answers →
-        IfOk result (λ more. IsTold (R.content records.old) holder.now.me holder.now.loaded.now.book number
+        IfOk result (λ more. IsTold (R.content records.old) holder.now.owner.party holder.now.loaded.now.book number
         again.old.state again.new.state (map posting_view telling.entry.postings.left.now)
         (map posting_view more.postings.left.now)) }
 {
@@ -72,12 +76,15 @@ pub(crate) fn tell_all<'a, R: Records>(
     postings: Postings<'a>,
 ) -> Result<Telling<'a>, Stop>
     requires valid { R.valid records.old }
-    requires plain { IsTrue (is_plain_party holder.now.me) }
+    requires plain { IsTrue (is_plain_party holder.now.owner.party) }
     requires few { holder.now.loaded.now.seq ≤ 2 ^ 63 - 1 }
+    requires empty { IsTrue again.old.answers → again.old.state.items ≡ [] }
+    requires marks { IsTrue (R.answers records.old) → IsTrue again.old.answers →
+        again.old.state.marks ≡ marks_of (R.content records.old).origin }
     ensures asked { WereAsked R.Records records.old records.new }
     ensures never_won_back { IsTrue again.new.answers → IsTrue again.old.answers }
     ensures told { IsTrue (R.answers records.new) → IsTrue again.new.answers →
-        IfOk result (λ more. AreTold (R.content records.old) holder.now.me holder.now.loaded.now.book
+        IfOk result (λ more. AreTold (R.content records.old) holder.now.owner.party holder.now.loaded.now.book
         holder.now.loaded.now.seq again.old.state again.new.state
         (map posting_view postings.entry.left.now)
         (map posting_view more.postings.left.now)) }

@@ -1,17 +1,15 @@
 //! Whether records are what the station that they name wrote.
 
-ghost use Rattle.std.specs.Prelude.{◌≡◌, ◌∷◌, ◌≤◌, ◌-◌, ◌^◌, [], IsTrue, IfOk, OnOk, All, map};
-ghost use Rattle.std.specs.Prelude.{option_to_list};
+ghost use Rattle.std.specs.Prelude.{◌≡◌, ◌≤◌, ◌-◌, ◌^◌, [], IsTrue, IfOk, OnOk, All, map};
 ghost use Rattle.x12_envelopes.specs.Party.{is_plain_party};
 ghost use Rattle.x12_inbound.specs.Posting.{posting_view};
-ghost use Rattle.x12_outbound.specs.Hubs.{hubs_of};
 ghost use Rattle.x12_station.specs.Durable.{IsHistoryOf, items_of};
 ghost use Rattle.x12_station.specs.Memory.{memory_view, IsKeptWhole};
 ghost use Rattle.x12_station.specs.Record.{owner_view, loaded_view, loaded_of, IsSoundLoaded};
 ghost use Rattle.x12_station.specs.Standing.{WereAsked};
-ghost use Rattle.x12_station.specs.Stored.{origin_of, entries};
+ghost use Rattle.x12_station.specs.Stored.{entries};
 ghost use Rattle.x12_verify.specs.Entries.{IsRightSubmission};
-ghost use Rattle.x12_verify.specs.Told.{HoldsTold};
+ghost use Rattle.x12_verify.specs.Told.{HoldsTold, IsOpenAgain};
 ghost use Rattle.x12_verify.specs.Verified.{IsSoundOutcome};
 
 use crate::again::Again;
@@ -21,34 +19,33 @@ use crate::entries::test_submissions;
 use crate::posted::{Postings, next_place};
 use crate::telling::{Telling, tell_all};
 use std::alloc::Global;
-use x12_envelopes::{Moment, Party};
+use x12_envelopes::Moment;
 use x12_inbound::Posting;
-use x12_outbound::Hubs;
 use x12_station::{MemoryRecords, Owner, Records, Station, StationFault, StoreFault};
 
-/// Tests that records name a station whose arrivals are read alike.
+/// Tests that records name a party that a station can have.
 fn test_owner(owner: &Owner) -> Result<(), Stop>
-    ensures origin { OnOk result (owner_view owner.now
-        ≡ origin_of owner.now.party (owner.now.hub ∷ option_to_list owner.now.other)) }
     ensures plain { OnOk result (IsTrue (is_plain_party owner.now.party)) }
 {
-    if owner.noted != 0 || owner.era != 0 {
-        return Err(Stop::Differs(Difference::Owner));
-    }
     if !owner.party.is_plain() {
         return Err(Stop::Differs(Difference::Owner));
     }
     Ok(())
 }
 
-/// Opens a station that is told a history again.
-fn open_again(alloc: Global, me: Party, hubs: Hubs) -> Result<Again, Stop>
-    requires { IsTrue (is_plain_party me) }
-    ensures { IfOk result (λ s. IsTrue s.answers →
-        (s.state.items ≡ []) × (s.state.me ≡ me) × (s.state.hubs ≡ hubs_of hubs)) }
+/// Opens a station of this owner that is told a history again: it reads what comes as the owner's does.
+fn open_again(alloc: Global, owner: &Owner) -> Result<Again, Stop>
+    requires { IsTrue (is_plain_party owner.now.party) }
+    ensures { IfOk result (λ s. IsTrue s.answers → IsOpenAgain (owner_view owner.now) s.state) }
 {
-    let records = MemoryRecords::new(alloc, me, hubs.hub, hubs.other);
-    match Station::open(alloc, me, hubs.hub, hubs.other, records) {
+    let Owner {
+        party,
+        hub,
+        other,
+        ..
+    } = *owner;
+    let records = MemoryRecords::read_so(alloc, *owner);
+    match Station::open(alloc, party, hub, other, records) {
         Ok(again) => Ok(again),
         Err((_, StationFault::Store)) => Err(Stop::Store(StoreFault::Device)),
         Err((_, _)) => Err(Stop::Store(StoreFault::Memory)),
@@ -59,20 +56,21 @@ fn open_again(alloc: Global, me: Party, hubs: Hubs) -> Result<Again, Stop>
 fn told_again<'a, R: Records>(
     records: &mut R,
     holder: &Holder<'_>,
-    hubs: Hubs,
     kept: &'a [Posting],
 ) -> Result<(Telling<'a>, MemoryRecords), Stop>
     requires valid { R.valid records.old }
-    requires plain { IsTrue (is_plain_party holder.now.me) }
+    requires plain { IsTrue (is_plain_party holder.now.owner.party) }
     requires few { holder.now.loaded.now.seq ≤ 2 ^ 63 - 1 }
+    requires origin { IsTrue (R.answers records.old) →
+        (R.content records.old).origin ≡ owner_view holder.now.owner }
     ensures asked { WereAsked R.Records records.old records.new }
     ensures whole { IfOk result (λ r. IsKeptWhole r.1) }
     ensures told { IsTrue (R.answers records.new) → IfOk result (λ r. HoldsTold
-        (R.content records.old) (memory_view r.1) holder.now.me (hubs_of hubs)
+        (R.content records.old) (memory_view r.1) (owner_view holder.now.owner)
         holder.now.loaded.now.book holder.now.loaded.now.seq (map posting_view kept.now)
         (map posting_view r.0.postings.left.now)) }
 {
-    let mut again = open_again(holder.alloc, holder.me, hubs)?;
+    let mut again = open_again(holder.alloc, &holder.owner)?;
     let postings = Postings {
         told: 0,
         left: kept,
@@ -122,20 +120,21 @@ fn end(telling: &Telling<'_>) -> Result<Sound, Stop>
 }
 
 /// Holds records against their history, which is told again.
-fn hold<R: Records>(records: &mut R, holder: &Holder<'_>, hubs: Hubs) -> Result<Sound, Stop>
+fn hold<R: Records>(records: &mut R, holder: &Holder<'_>) -> Result<Sound, Stop>
     requires valid { R.valid records.old }
-    requires plain { IsTrue (is_plain_party holder.now.me) }
+    requires plain { IsTrue (is_plain_party holder.now.owner.party) }
     requires origin { IsTrue (R.answers records.old) →
-        (R.content records.old).origin ≡ origin_of holder.now.me (hubs_of hubs) }
+        (R.content records.old).origin ≡ owner_view holder.now.owner }
     requires loaded { IsTrue (R.answers records.old) →
         loaded_view holder.now.loaded.now ≡ loaded_of (R.content records.old) }
     requires sound { IsSoundLoaded (loaded_view holder.now.loaded.now) }
     ensures asked { WereAsked R.Records records.old records.new }
     ensures sound { IsTrue (R.answers records.new) →
-        OnOk result (IsHistoryOf holder.now.me (hubs_of hubs) (R.content records.old)) }
+        OnOk result (IsHistoryOf (owner_view holder.now.owner).me (owner_view holder.now.owner).hubs
+        (R.content records.old)) }
 {
     let kept = records.postings()?;
-    let (telling, told) = told_again(records, holder, hubs, &kept)?;
+    let (telling, told) = told_again(records, holder, &kept)?;
     let sound = end(&telling)?;
     test_told(records, holder, told)?;
     Ok(sound)
@@ -154,15 +153,11 @@ fn verified<R: Records>(alloc: Global, records: &mut R, at: &Moment) -> Result<S
     let loaded = records.load()?;
     let holder = Holder {
         alloc,
-        me: owner.party,
+        owner,
         at: *at,
         loaded: &loaded,
     };
-    let hubs = Hubs {
-        hub: owner.hub,
-        other: owner.other,
-    };
-    hold(records, &holder, hubs)
+    hold(records, &holder)
 }
 
 /// Says whether records are what the station that they name wrote: that each submission could be

@@ -10,6 +10,6 @@ invariant-loop-before g l = record {
   asked : WereAsked g.R.Records l.fn.records l.records;
   won : IsTrue l.again.answers → IsTrue l.fn.again.answers;
   told : IsTrue (g.R.Records.answers l.records) → IsTrue l.again.answers →
-      AreTold (g.R.Records.content l.fn.records) l.fn.holder.me l.fn.holder.loaded.now.book l.before l.fn.again.state l.again.state
+      AreTold (g.R.Records.content l.fn.records) l.fn.holder.owner.party l.fn.holder.loaded.now.book l.before l.fn.again.state l.again.state
       (map posting_view l.fn.postings.left.now) (map posting_view l.telling.postings.left.now);
 }
