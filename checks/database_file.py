@@ -26,7 +26,7 @@ HERE = os.path.dirname(os.path.realpath(__file__))
 TOP = os.path.dirname(HERE)
 sys.path.insert(0, f"{HERE}/tools")
 from crates import Crate, crates_of, text_of
-from tests import modules_in, write_crate
+from tests import modules_in, placed, write_crate
 from unproved import Unbuilt, build_program
 
 BELOW = ["x12_records", "x12_station", "x12_hub", "x12_outbound", "x12_acks", "x12_judge", "x12_envelopes"]
@@ -205,8 +205,9 @@ CHANGED_HUB = {
 CHANGED_STATION = {
     "UPDATE numbers SET seq = 5": "an arrival isn't counted",
     "UPDATE numbers SET seq = 7": "more is counted than came and was submitted",
-    "UPDATE numbers SET noted = 1": "a column that is nought in this version isn't",
-    "UPDATE numbers SET era = 1": "likewise",
+    "UPDATE numbers SET noted = 1": "more is read as before sets were noted than as before the edition",
+    "UPDATE numbers SET noted = 7, era = 7": "an arrival to come is read as before",
+    "UPDATE numbers SET era = -1": "a mark below nought",
     "UPDATE agreement SET lenient = 2 WHERE at = 2": "an agreement is neither strict nor lenient",
     "UPDATE agreement SET lenient = 0 WHERE at = 2": "one partner's agreement is strict and lenient",
     "UPDATE outset SET fate = 4 WHERE at = 1": "a fate that is none",
@@ -221,14 +222,41 @@ OF_VERSION_1 = {
     "DELETE FROM outset WHERE icn = 6; UPDATE numbers SET seq = 900": "with rows that are out of form",
     "UPDATE numbers SET party = x'5A5A'": "with a party of two bytes",
 }
-IS_OLDER = "the records are of version 1: take the release that made them"
+IS_OLDER = "its records are of version 1: copy the folder, then run `van migrate DIR`"
 OTHER_VERSIONS = ("UPDATE numbers SET version = 0", "UPDATE numbers SET version = 3", "DELETE FROM numbers")
 NOT_OURS = "the database has other tables than these records"
 # What is done to a file, and what may then be in force: records that a station may have left.
 ALLOWED_STATION = {
     "UPDATE agreement SET lenient = 1": "every agreement lenient",
     "UPDATE outset SET fate = 3 WHERE fate = 1": "an accepted set noted",
+    "UPDATE numbers SET noted = 6, era = 6": "all arrivals read as before",
 }
+
+# --- Records of version 1 --------------------------------------------------------------------------------------------
+
+# ALPHA's two orders. Its partner accepted the first with errors noted, which version 1 read as accepted.
+OLD_ORDERS = [orders("ZZALPHA", DUNS, n, n + 2, order("0001")) for n in (5, 6)]
+OLD_ANSWERS = [answer(DUNS, "ZZALPHA", n, n, f"AK1*PO*{n - 14}~AK2*850*0001~AK5*E*5~AK9*E*1*1*1~") for n in (21, 22)]
+VERSION_1 = [
+    ("", "opened\nopen, new true"),
+    (f"submit {OLD_ORDERS[0]}", "sent 5"),
+    (f"submit {OLD_ORDERS[1]}", "sent 6"),
+    (f"arrive {OLD_ANSWERS[0]}", "new, settled 1, no reply"),
+    ("", "failures 0"),
+]
+AS_VERSION_1 = "UPDATE outset SET fate = 1 WHERE fate = 3;UPDATE numbers SET version = 1"
+MIGRATED_ROWS = {"numbers": [(1, 2, stored("ZZALPHA"), stored("ZZHUB"), None, 6, 8, 3, 0, 3, 3)]}
+# What was accepted stays so, and what comes now is read anew.
+MIGRATED = [
+    ("", "opened\nopen, new false"),
+    ("fate 5 1 1", "accepted"),
+    ("fate 6 1 1", "pending"),
+    (f"arrive {OLD_ANSWERS[1]}", "new, settled 1, no reply"),
+    ("fate 6 1 1", "noted"),
+    (f"arrive {OLD_ANSWERS[0]}", "same, settled 0, no reply"),
+    ("fate 5 1 1", "accepted"),
+    ("", "failures 0"),
+]
 
 # --- The page --------------------------------------------------------------------------------------------------------
 
@@ -265,7 +293,7 @@ def build(room):
     listed = {it.name: [below.name for below in it.libraries] + it.of_kit[1:] for it in crates_of(TOP)}
     crate = Crate(TOP, "database_file", {**listed, "database_file": BELOW + OF_KIT})
     crate.folder = f"{room}/database_file"
-    write_crate(crate.folder, {"database_file": modules_in(f"{HERE}/database_file/src")})
+    write_crate(crate.folder, placed("database_file", modules_in(f"{HERE}/database_file/src")))
     build_program(crate, f"{room}/program", is_tests=True)
     return f"{room}/program"
 
@@ -431,6 +459,15 @@ def takes(path, sql):
         return bool(changed) and tells("station", "old", changed, [("", "opened\nopen, new false"), ("", "failures 0")])
 
 
+def migrates(path, was):
+    """Whether a station's records are migrated, which were of this version, and stay as they are where that was 2."""
+    with open(path, "rb") as file:
+        before = file.read()
+    told = run(["station", "migrate", path], [])
+    with open(path, "rb") as file:
+        return told == (f"migrated, was {was}\n", 0) and (was == 1 or file.read() == before)
+
+
 def survives_kills(path):
     """Whether what a killed run had answered is in the file, whole, and the next run goes on behind it."""
     more = [orders("ZZALPHA", "ZZBETA", n, n, order("0001")) for n in range(1001, 1401)]
@@ -489,6 +526,26 @@ def shown(room, page):
     for sql, what in ALLOWED_STATION.items():
         yield f"a station takes over records with {what}: {sql}", takes(station, sql)
     yield "a station goes on over its file", tells("station", "old", station, OLD_STATION)
+    yield from migrated(room, hub, station)
+
+
+def migrated(room, hub, station):
+    """What is shown of records of version 1, and whether it holds."""
+    made = f"{room}/made.db"
+    yield "a station over a new file answers, of version 1", tells("station", "new", made, VERSION_1)
+    older = changed_by(made, AS_VERSION_1, f"{room}/older.db")
+    yield "records of version 1 aren't taken over", refuses("station", made, AS_VERSION_1, IS_OLDER)
+    yield "nor migrated as another's", refuses("station", made, AS_VERSION_1, "the records are of", "migrate-other")
+    out_of_form = f"{AS_VERSION_1};UPDATE numbers SET seq = 900"
+    yield "nor where they are out of form", refuses("station", made, out_of_form, OUT_OF_FORM, "migrate")
+    for sql in OTHER_VERSIONS:
+        yield f"nor are tables of no version up to this one: {sql}", refuses("station", made, sql, NOT_OURS, "migrate")
+    yield "nor a hub's", run(["station", "migrate", hub], [])[1] == FAILED
+    yield "records of version 1 are migrated", migrates(older, 1)
+    yield "SQLite finds no fault in a file that was migrated", is_sound(older)
+    yield "they are of version 2, with their marks", has_rows(older, MIGRATED_ROWS)
+    yield "the migrated station goes on: what was accepted stays", tells("station", "old", older, MIGRATED)
+    yield "records of version 2 are migrated by nothing", migrates(older, 2) and migrates(station, 2)
 
 
 def main():

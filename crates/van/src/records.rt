@@ -9,10 +9,10 @@ use std::alloc::{AllocError, Global};
 use std::process::ExitCode;
 use x12_envelopes::Party;
 use x12_hub::Hub;
-use x12_mailbox::{Command, OpensRecords, Stop, status_of};
+use x12_mailbox::{Command, Migration, OpensRecords, Stop, status_of};
 use x12_records::{
-    FilesFrom, OpenFault, RecordsFault, SqliteHubRecords, SqliteRecords, open_hub,
-    open_station_file,
+    FilesFrom, OpenFault, RecordsFault, STATION_VERSION, SqliteHubRecords, SqliteRecords,
+    migrate_station_file, open_hub, open_station_file,
 };
 use x12_station::Station;
 
@@ -33,6 +33,18 @@ trait Databases {
         hub: Party,
         other: Option<Party>,
     ) -> Result<Station<SqliteRecords<Self::Store>>, OpenFault>
+        requires { IsTrue (is_plain_party me) };
+
+    /// Brings the records of the station of this party at this hub to the newest version; which version they
+    /// were of.
+    fn migrate(
+        &self,
+        rt: &HostRuntime,
+        path: &str,
+        me: Party,
+        hub: Party,
+        other: Option<Party>,
+    ) -> Result<u32, OpenFault>
         requires { IsTrue (is_plain_party me) };
 
     /// The hub of this party.
@@ -72,6 +84,17 @@ impl Databases for Files {
         other: Option<Party>,
     ) -> Result<Station<SqliteRecords<FilesFrom<Wary>>>, OpenFault> {
         open_station_file(rt, path, me, hub, other)
+    }
+
+    fn migrate(
+        &self,
+        rt: &HostRuntime,
+        path: &str,
+        me: Party,
+        hub: Party,
+        other: Option<Party>,
+    ) -> Result<u32, OpenFault> {
+        migrate_station_file(rt, path, me, hub, other)
     }
 
     fn hub(
@@ -123,6 +146,21 @@ impl<D: Databases> OpensRecords for InDatabases<'_, D> {
         me: Party,
     ) -> Result<Hub<SqliteHubRecords<D::Store>>, OpenFault> {
         self.databases.hub(rt, path, me)
+    }
+
+    fn migrate_station(
+        &self,
+        rt: &HostRuntime,
+        path: &str,
+        me: Party,
+        hub: Party,
+        other: Option<Party>,
+    ) -> Result<Migration, OpenFault> {
+        let was = self.databases.migrate(rt, path, me, hub, other)?;
+        Ok(Migration {
+            was,
+            is: STATION_VERSION,
+        })
     }
 
     fn make_station(

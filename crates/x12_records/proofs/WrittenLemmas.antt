@@ -1,5 +1,5 @@
 -- That a station wrote records is a proposition, and with the form of its tables the history of that station.
-use Rattle.std.proofs.Common.{◌≡◌, ℕ, Bool, List, All, IsTrue, refl, sym, subst}
+use Rattle.std.proofs.Common.{◌≡◌, ◌∙◌, ℕ, Bool, List, All, IsTrue, refl, sym, ap₂, subst}
 use Rattle.std.specs.Coded.{Coded, Coded-set, code_by, coded×, coded_ℕ, coded_bool, coded_list}
 use Rattle.x12_acks.specs.Accepted.{AcceptedSet}
 use Rattle.x12_acks.specs.Submission.{TransactionSetKey}
@@ -7,10 +7,11 @@ use Rattle.x12_envelopes.specs.declared.party.Party.{Party}
 use Rattle.x12_numbers.specs.Book.{Numbers}
 use Rattle.x12_outbound.specs.Entry.{InterchangeRow, GroupRow, SetRow}
 use Rattle.x12_outbound.specs.declared.fate.Fate.{Fate}
+use Rattle.x12_profile.specs.Edition.{Marks}
 use Rattle.x12_profile.specs.Interchange.{Bytes}
 use Rattle.x12_station.specs.Durable.{IsHistoryOf, IsOwnSubmission, IsFiledRightly, IsAnsweredRightly, fared_entries, items_of}
 use Rattle.x12_station.specs.History.{submissions}
-use Rattle.x12_station.specs.Stored.{Origin, Stored, StoredArrival, IsSound, origin_of, entries}
+use Rattle.x12_station.specs.Stored.{Stored, StoredArrival, IsSound, entries, marks_of}
 use Rattle.x12_station_records.proofs.StationContentLemmas.{fate_back}
 use Rattle.x12_station_records.specs.StationContent.{fate_numbered}
 use Rattle.x12_station_records.specs.StationTables.{fate_number}
@@ -67,8 +68,8 @@ own_prop me x = hlevel (true_prop, party_prop)
 filed_prop : (r : StoredArrival) → IsProp (IsFiledRightly r.filed)
 filed_prop r = hlevel (true_prop, party_prop, number_prop)
 
-answered_prop : (me : Party) (book : Numbers) (r : StoredArrival) → IsProp (IsAnsweredRightly me book r)
-answered_prop me book r = squash₁
+answered_prop : (marks : Marks) (me : Party) (book : Numbers) (r : StoredArrival) → IsProp (IsAnsweredRightly marks me book r)
+answered_prop marks me book r = squash₁
 
 pub written_prop : (s : Stored) → IsProp (IsWritten s)
 written_prop s = hlevel (entries_prop, postings_prop, own_prop, filed_prop, answered_prop)
@@ -76,20 +77,20 @@ written_prop s = hlevel (entries_prop, postings_prop, own_prop, filed_prop, answ
 -- the history of a station's records, beside the form of its tables
 pub written_of : (me : Party) (hubs : List Party) (s : Stored) → IsHistoryOf me hubs s → IsWritten s
 written_of me hubs s h = record {
-  fates = subst (λ (o : Origin). entries s ≡ fared_entries o.me o.hubs (items_of s)) (sym h.origin) h.fates;
-  own = subst (λ (o : Origin). All (IsOwnSubmission o.me) (submissions (items_of s))) (sym h.origin) h.own;
+  fates = h.fates ∙ ap₂ (λ (m : Party) (hs : List Party). fared_entries m hs (items_of s)) (sym h.origin.0) (sym h.origin.1);
+  own = subst (λ (m : Party). All (IsOwnSubmission m) (submissions (items_of s))) (sym h.origin.0) h.own;
   filed = h.filed;
-  answered = subst (λ (o : Origin). All (IsAnsweredRightly o.me s.book) s.arrived) (sym h.origin) h.answered;
+  answered = subst (λ (m : Party). All (IsAnsweredRightly (marks_of s.origin) m s.book) s.arrived) (sym h.origin.0) h.answered;
   posted = h.posted;
 }
 
-pub history_of : (me : Party) (hubs : List Party) (s : Stored) → IsSound s → s.origin ≡ origin_of me hubs → IsWritten s → IsHistoryOf me hubs s
-history_of me hubs s sound origin h = record {
+pub history_of : (me : Party) (hubs : List Party) (s : Stored) → IsSound s → s.origin.me ≡ me → s.origin.hubs ≡ hubs → IsWritten s → IsHistoryOf me hubs s
+history_of me hubs s sound is_me is_hubs h = record {
   sound = sound;
-  origin = origin;
-  fates = subst (λ (o : Origin). entries s ≡ fared_entries o.me o.hubs (items_of s)) origin h.fates;
-  own = subst (λ (o : Origin). All (IsOwnSubmission o.me) (submissions (items_of s))) origin h.own;
+  origin = (is_me, is_hubs);
+  fates = h.fates ∙ ap₂ (λ (m : Party) (hs : List Party). fared_entries m hs (items_of s)) is_me is_hubs;
+  own = subst (λ (m : Party). All (IsOwnSubmission m) (submissions (items_of s))) is_me h.own;
   filed = h.filed;
-  answered = subst (λ (o : Origin). All (IsAnsweredRightly o.me s.book) s.arrived) origin h.answered;
+  answered = subst (λ (m : Party). All (IsAnsweredRightly (marks_of s.origin) m s.book) s.arrived) is_me h.answered;
   posted = h.posted;
 }

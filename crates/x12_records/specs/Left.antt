@@ -1,5 +1,5 @@
 -- What is supposed of the files that a station is opened over, which a run of a station leaves so.
-use Rattle.std.specs.Prelude.{◌≡◌, All}
+use Rattle.std.specs.Prelude.{◌≡◌, ℕ, All}
 use Rattle.sqlite.specs.Files.{HoldsDatabase, AreFoundIn}
 use Rattle.sqlite_trees.specs.declared.store.Store.{Ghosts}
 use Rattle.sqlite_trees.specs.Tree.{Trees}
@@ -8,9 +8,9 @@ use Rattle.sqlite_wal.specs.Recovery.{Image}
 use Rattle.x12_profile.specs.X12.{x12}
 use Rattle.x12_station.specs.Durable.{IsOwnSubmission, IsFiledRightly, IsAnsweredRightly, fared_entries, items_of}
 use Rattle.x12_station.specs.History.{submissions, postings}
-use Rattle.x12_station.specs.Stored.{Stored, entries}
+use Rattle.x12_station.specs.Stored.{Stored, entries, marks_of}
 use Rattle.x12_station_records.specs.StationContent.{content_of}
-use Rattle.x12_station_records.specs.StationPlan.{HoldsRows}
+use Rattle.x12_station_records.specs.StationPlan.{HoldsRowsOf}
 use Rattle.x12_station_records.specs.StationSchema.{station_schema}
 use Rattle.x12_station_records.specs.declared.station_committing.NextRows.{NextRows}
 
@@ -25,13 +25,14 @@ pub record IsWritten (s : Stored) : Type 0 where
   pub fates : entries s ≡ fared_entries s.origin.me s.origin.hubs (items_of s)
   pub own : All (IsOwnSubmission s.origin.me) (submissions (items_of s))
   pub filed : All (λ r. IsFiledRightly r.filed) s.arrived
-  pub answered : All (IsAnsweredRightly s.origin.me s.book) s.arrived
+  pub answered : All (IsAnsweredRightly (marks_of s.origin) s.origin.me s.book) s.arrived
   pub posted : s.postings ≡ postings x12 (items_of s)
 
--- Where these are the tables of a station's records, the station that they name wrote them.
+-- Where these are the tables of a station's records, of whatever version, the station that they name
+-- wrote them.
 abbrev pub IsStations : Trees → Type 0
-IsStations db = (next : NextRows) →
-    HoldsRows next (record { schema = station_schema; trees = db }) (content_of db) →
+IsStations db = (version : ℕ) (next : NextRows) →
+    HoldsRowsOf version next (record { schema = station_schema; trees = db }) (content_of db) →
     IsWritten (content_of db)
 
 -- Whatever database is found in the files: where it is a station's, the station that it names wrote

@@ -28,6 +28,8 @@ pub mod StationKeptRows
 pub mod StationListLemmas
 pub mod StationListings
 pub mod StationLoadLemmas
+pub mod StationMarkLemmas
+pub mod StationMigrateLemmas
 pub mod StationNewLemmas
 pub mod StationNumberLemmas
 pub mod StationOlder

@@ -7,6 +7,7 @@ use Rattle.x12_station.specs.Stored.{IsSound}
 use Rattle.x12_tables.proofs.ReadLemmas.{then_reads}
 use Rattle.x12_tables.specs.Read.{OnlyReads, Answers}
 use Rattle.x12_station_records.specs.StationContent.{content_of, IsValid}
+use Rattle.x12_station_records.specs.StationNumbers.{AreMarked, numbers_kept_of}
 use Rattle.x12_station_records.specs.StationPlan.{HoldsRows}
 use Rattle.x12_station_records.specs.StationRead.{HasValid}
 use Rattle.x12_station_records.specs.declared.station_committing.NextRows.{NextRows}
@@ -40,6 +41,7 @@ station_kept next old new reads v =
       settled = λ o. same o ∙ v.settled (reads.never_won_back o) ∙ sym (reads.committed o);
       holds = λ o. subst (λ (d : Database). HoldsRows next d (content_of d.trees)) (sym (same o)) (v.holds (reads.never_won_back o));
       sound = λ o. subst (λ (d : Database). IsSound (content_of d.trees)) (sym (same o)) (v.sound (reads.never_won_back o));
+      marked = λ o. subst (λ (d : Database). AreMarked (numbers_kept_of (content_of d.trees))) (sym (same o)) (v.marked (reads.never_won_back o));
     }
 
 pub station_still : (old new : State) → OnlyReads old new → HasValid old → HasValid new

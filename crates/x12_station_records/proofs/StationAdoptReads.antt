@@ -189,14 +189,14 @@ obeys : (db : Database) → ObeysSchema station_schema db → Obeys station_sche
 obeys db h = subst (λ s. Obeys s db.trees) h.schema_is h.sound.obeys
 
 module _ (old new : State) (h : ObeysSchema station_schema old.now) (rows : List Row) where
-  pub finds_numbers : Shown numbers_text [] old new rows → (n : NumbersRow) → AreLastNumbers n rows → FindsNumbers old.now n
-  finds_numbers shown n are =
+  pub finds_numbers : Shown numbers_text [] old new rows → (oldest : ℕ) (n : NumbersRow) → AreLastNumbers oldest n rows → FindsNumbers oldest old.now n
+  finds_numbers shown oldest n are =
       let got = reads_as numbers_text [] old new station_schema h.schema_is numbers_command numbers_is.0 numbers_is.2 numbers_is.1 rows shown in
       let all = read_rows 0 numbers_shows [] (overlay old.now.trees []) rows (got.answer Null) in
       let rules = obeys old.now h in
       let stored = all_of_both _ _ (old.now.trees 0) (rules.rules Datatype).0 (rules.rules NotNull).0 in
       let kept = subst (IsOneRow (whole (with_id numbers_row (1, n)))) all.2 are.row in
-      record { obeys = h; rows = numbers_hold n (old.now.trees 0) all.0 (all_moved _ (old.now.trees 0) all.0 all.1 stored) all.1 kept; few = are.few; parties = are.parties; book = are.book }
+      record { obeys = h; known = are.known; rows = numbers_hold n (old.now.trees 0) all.0 (all_moved _ (old.now.trees 0) all.0 all.1 stored) all.1 kept; few = are.few; parties = are.parties; book = are.book }
 
   pub finds_agreed : Shown pairs_text [] old new rows → (next : ℕ) → AreAgreed next rows → FindsAgreed old.now next
   finds_agreed shown next are =

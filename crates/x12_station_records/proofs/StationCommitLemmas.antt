@@ -5,8 +5,10 @@ use Rattle.sqlite.specs.State.{State, HasCleanDisk}
 use Rattle.x12_station.specs.Plan.{Commit, stored_after}
 use Rattle.x12_station.specs.Stored.{Stored, IsSound}
 use Rattle.x12_station_records.proofs.StationContentLemmas.{content_is}
+use Rattle.x12_station_records.proofs.StationMarkLemmas.{marks_stay}
 use Rattle.x12_station_records.proofs.StationOneLemmas.{fits}
 use Rattle.x12_station_records.specs.StationContent.{MayHold, content_of, IsValid}
+use Rattle.x12_station_records.specs.StationNumbers.{AreMarked, numbers_kept_of}
 use Rattle.x12_station_records.specs.StationPlan.{FollowsCommit, IsWholeWith, HoldsRows}
 use Rattle.x12_station_records.specs.declared.station_committing.NextRows.{NextRows}
 
@@ -35,6 +37,7 @@ module _ (from : NextRows) (plan : Commit) (old new : State) (valid : IsValid fr
       outside = outside;
       settled = λ o. (w.done (law o)).settled;
       holds = λ o. let c = w.done (law o) in subst (HoldsRows to new.now) (sym (after_is to c.was_open new.now c.change)) (after to c.was_open new.now c.change);
+      marked = λ o. let c = w.done (law o) in subst (λ (s : Stored). AreMarked (numbers_kept_of s)) (sym (after_is to c.was_open new.now c.change)) (marks_stay plan (content_of old.now.trees) (valid.sound c.was_open) (sound c.was_open) (valid.marked c.was_open));
       sound = λ o. let c = w.done (law o) in subst IsSound (sym (after_is to c.was_open new.now c.change)) (sound c.was_open);
     }
 
@@ -46,6 +49,7 @@ module _ (from : NextRows) (plan : Commit) (old new : State) (valid : IsValid fr
           outside = outside;
           settled = λ o. same o ∙ valid.settled (opened o) ∙ sym ((w.kept (law o)).committed o);
           holds = λ o. subst (λ (d : Database). HoldsRows from d (content_of d.trees)) (sym (same o)) (valid.holds (opened o));
+          marked = λ o. subst (λ (d : Database). AreMarked (numbers_kept_of (content_of d.trees))) (sym (same o)) (valid.marked (opened o));
           sound = λ o. subst (λ (d : Database). IsSound (content_of d.trees)) (sym (same o)) (valid.sound (opened o));
         }
 

@@ -22,7 +22,7 @@ use Rattle.x12_tables.specs.First.{first_row}
 use Rattle.x12_tables.specs.Party.{IsWideParty}
 use Rattle.x12_station_records.specs.StationContent.{pair_joined, agreements_of, pair_in, submission_in, fate_numbered, lenient_numbered, set_in, reply_in, arrival_in, posting_in, kept_numbers_in, content_of}
 use Rattle.x12_station_records.specs.StationNumbers.{other_in, numbers_view, KeptNumbers, numbers_kept_of}
-use Rattle.x12_station_records.specs.StationTables.{pair_of, AgreedPair, agreed_pairs, pair_row, by_icn, submission_row, fate_number, lenient_number, row_of_set, reply_value, arrival_row, by_seq, posting_row, other_value, numbers_row, AreWideParties, HoldsNumbersRow, HasTables}
+use Rattle.x12_station_records.specs.StationTables.{pair_of, AgreedPair, agreed_pairs, pair_row, by_icn, submission_row, fate_number, lenient_number, row_of_set, reply_value, arrival_row, by_seq, posting_row, other_value, numbers_row, AreWideParties, HoldsNumbersRow, HasTablesOf}
 use Rattle.x12_station_records.specs.declared.station_numbers.NumbersRow.{NumbersRow}
 use Rattle.x12_outbound.specs.declared.fate.Fate.TheVariants.{Pending, Accepted, Noted, Rejected}
 
@@ -127,12 +127,12 @@ other_back (Some party) h = ap (λ p. p ∷ []) (party_back party h.0)
 pub numbers_back : (n : NumbersRow) → AreWideParties n.owner → kept_numbers_in (with_id numbers_row (1, n)) ≡ numbers_view n
 numbers_back n h = rw (party_back n.owner.party h.0, party_back n.owner.hub h.1.0, other_back n.owner.other h.1.1) refl
 
-pub numbers_are : (n : KeptNumbers) (rows : List Row) → HoldsNumbersRow n rows → kept_numbers_in (first_row rows) ≡ n
+pub numbers_are : {version : ℕ} (n : KeptNumbers) (rows : List Row) → HoldsNumbersRow version n rows → kept_numbers_in (first_row rows) ≡ n
 numbers_are n rows h =
     let one = one_permutation (with_id numbers_row (1, h.row)) rows (IsPermutation-sym _ _ h.are.same) in
     ap (λ rs. kept_numbers_in (first_row rs)) one ∙ numbers_back h.row h.parties ∙ h.said
 
-pub content_is : (next : ℕ) (db : Database) (s : Stored) → HasTables next db s → IsSound s → content_of db.trees ≡ s
+pub content_is : {version : ℕ} (next : ℕ) (db : Database) (s : Stored) → HasTablesOf version next db s → IsSound s → content_of db.trees ≡ s
 content_is next db s has sound =
     let holds = has.agreements in
     let qualifiers : AllByRecursion (λ (p : AgreedPair). IsWideParty p.partner) (map (λ (x : ℕ × AgreedPair). x.1) holds.at) = subst (AllByRecursion (λ (p : AgreedPair). IsWideParty p.partner)) (sym holds.pairs_are) (pairs_of_all s.agreements holds.parties) in

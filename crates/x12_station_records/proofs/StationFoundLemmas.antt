@@ -6,16 +6,16 @@ use Rattle.sqlite.specs.State.{State, HasCleanDisk}
 use Rattle.sqlite_schema.specs.Rules.{Obeys}
 use Rattle.sqlite_schema.specs.declared.schema.Constraint.TheVariants.{Unique, ForeignKey}
 use Rattle.x12_numbers.specs.Book.{Numbers}
-use Rattle.x12_station.specs.Record.{owner_view}
-use Rattle.x12_station.specs.Stored.{Origin, IsSound, StoredSubmission, StoredArrival, IsNumberedBy, entries, seqs}
+use Rattle.x12_envelopes.specs.declared.party.Party.{Party}
+use Rattle.x12_station.specs.Stored.{IsSound, StoredSubmission, StoredArrival, IsNumberedBy, entries, seqs}
 use Rattle.x12_tables.specs.Adopt.{Finds}
 use Rattle.x12_station_records.proofs.StationContentLemmas.{numbers_are}
 use Rattle.x12_station_records.proofs.StationSentLemmas.{sent_entries}
 use Rattle.x12_station_records.proofs.StationUniqueLemmas.{filed_once, of_filed, posted_once}
-use Rattle.x12_station_records.specs.StationAdopt.{FindsSubmitted, FindsSent, AreOfAll, FindsSets, FindsNumbers, FindsRecords, FindsRows, FindsArrived, FindsOrder}
+use Rattle.x12_station_records.specs.StationAdopt.{FindsSubmitted, FindsSent, AreOfAll, FindsSets, FindsNumbers, FindsOwn, FindsRecords, FindsRows, FindsArrived, FindsOrder}
 use Rattle.x12_station_records.specs.StationContent.{content_of, IsValid}
-use Rattle.x12_station_records.specs.StationNumbers.{numbers_kept_of, numbers_view, KeptNumbers}
-use Rattle.x12_station_records.specs.StationPlan.{HoldsRows}
+use Rattle.x12_station_records.specs.StationNumbers.{AreMarked, newest_version, numbers_kept_of, numbers_view, KeptNumbers}
+use Rattle.x12_station_records.specs.StationPlan.{HoldsRows, HoldsRowsOf}
 use Rattle.x12_station_records.specs.StationSchema.{station_schema}
 use Rattle.x12_station_records.specs.StationTables.{CanBeUsed}
 use Rattle.x12_station_records.specs.declared.station_committing.NextRows.{NextRows}
@@ -47,13 +47,14 @@ sent_found book db xs next s t = record {
 }
 
 -- what the row of numbers says is what the tables stand for
-pub origin_found : (db : Database) (n : NumbersRow) → FindsNumbers db n → numbers_kept_of (content_of db.trees) ≡ numbers_view n
-origin_found db n found = numbers_are (numbers_view n) (db.trees 0) (record { row = n; are = found.rows; said = refl; parties = found.parties; book = found.book })
+pub origin_found : (oldest : ℕ) (db : Database) (n : NumbersRow) → FindsNumbers oldest db n → numbers_kept_of (content_of db.trees) ≡ numbers_view n
+origin_found oldest db n found = numbers_are {version = n.version} (numbers_view n) (db.trees 0) (record { row = n; version_is = refl; are = found.rows; said = refl; parties = found.parties; book = found.book })
 
-pub records_found : (db : Database) (n : NumbersRow) (o : Origin) (next : NextRows) → FindsNumbers db n → owner_view n.owner ≡ o → FindsRows n db next → FindsRecords o db next
-records_found db n o next numbers own rows =
+pub records_found : (oldest : ℕ) (party : Party) (hubs : List Party) (db : Database) (n : NumbersRow) (next : NextRows) → FindsOwn oldest party hubs db n → FindsRows n db next → FindsRecords oldest party hubs db (next, n)
+records_found oldest party hubs db n next found rows =
+    let numbers = found.numbers in
     let s = content_of db.trees in
-    let said : numbers_kept_of s ≡ numbers_view n = origin_found db n numbers in
+    let said : numbers_kept_of s ≡ numbers_view n = origin_found oldest db n numbers in
     let book : s.book ≡ n.book = ap (λ (k : KeptNumbers). k.book) said in
     let seq : s.seq ≡ n.seq = ap (λ (k : KeptNumbers). k.seq) said in
     let handed : s.handed ≡ n.handed = ap (λ (k : KeptNumbers). k.handed) said in
@@ -65,10 +66,11 @@ records_found db n o next numbers own rows =
     let posted = rows.posted.0 in
     let others : map (λ (y : ℕ × ℕ). y.1) rows.sent ≡ map (λ (r : StoredSubmission). r.seq) s.submitted = sym (ap (map (λ (y : ℕ × ℕ). y.1)) sent.submitted.numbers) ∙ seconds s.submitted in
     record {
+      known = numbers.known;
       holds = record {
         has = record {
           schema = numbers.obeys.schema_is;
-          numbers = record { row = n; are = numbers.rows; said = sym said; parties = numbers.parties; book = subst CanBeUsed (sym book) numbers.book };
+          numbers = record { row = n; version_is = refl; are = numbers.rows; said = sym said; parties = numbers.parties; book = subst CanBeUsed (sym book) numbers.book };
           agreements = rows.agreed.holds;
           submitted = sent.submitted.holds;
           sets = sent.sets;
@@ -97,25 +99,27 @@ records_found db n o next numbers own rows =
         agreed_once = rows.agreed.kept.agreed_once;
         agreed = rows.agreed.kept.agreed;
       };
-      origin = ap (λ (k : KeptNumbers). k.origin) said ∙ own;
+      own = (ap (λ (k : KeptNumbers). k.origin.me) said ∙ found.own.0, ap (λ (k : KeptNumbers). k.origin.hubs) said ∙ found.own.1);
+      marked = subst AreMarked (sym said) found.marked;
+      said = said;
     }
   where
     few_handed : (a b next n : ℕ) → a ≡ b → b < next → next ≡ 1 + n → a ≤ n
     few_handed a b next n same low is = omega (arith, same, low, is)
 
-valid_found : {E : Type 0} (o : Origin) (next : NextRows) (old new : State) → Finds {E = E} (FindsRecords o) (Ok next) old new → old.in_transaction ≡ false → (IsTrue old.is_open → old.now ≡ old.committed)
-    → (IsTrue new.is_open → HasCleanDisk new) → IsValid next new
-valid_found o next old new h outside settled law = record {
+-- what was found is valid, where it is of the newest version
+pub valid_found : {E : Type 0} (oldest : ℕ) (party : Party) (hubs : List Party) (x : NextRows × NumbersRow) → (oldest ≤ x.1.version → x.1.version ≤ newest_version → x.1.version ≡ newest_version) → (old new : State) → Finds {E = E} (FindsRecords oldest party hubs) (Ok x) old new
+    → old.in_transaction ≡ false → (IsTrue old.is_open → old.now ≡ old.committed) → (IsTrue new.is_open → HasCleanDisk new) → IsValid x.0 new
+valid_found oldest party hubs x newest old new h outside settled law = record {
   outside = h.mode outside;
   settled = λ o. let k = h.stays (law o) in let was = settled (k.was_open o) in k.now was o ∙ was ∙ sym (k.committed o);
-  holds = λ o. let f = h.found (law o) in subst (λ (d : Database). HoldsRows next d (content_of d.trees)) (sym f.1.0.now_is) f.0.holds;
+  holds = λ o.
+      let f = h.found (law o) in
+      let holds = subst (λ (v : ℕ). HoldsRowsOf v x.0 old.now (content_of old.now.trees)) (newest f.0.known.0 f.0.known.1) f.0.holds in
+      subst (λ (d : Database). HoldsRows x.0 d (content_of d.trees)) (sym f.1.0.now_is) holds;
   sound = λ o. let f = h.found (law o) in subst (λ (d : Database). IsSound (content_of d.trees)) (sym f.1.0.now_is) f.0.sound;
+  marked = λ o. let f = h.found (law o) in subst (λ (d : Database). AreMarked (numbers_kept_of (content_of d.trees))) (sym f.1.0.now_is) f.0.marked;
 }
-
-pub valid_if_found : {E : Type 0} (o : Origin) (r : Result NextRows E) (old new : State) → Finds (FindsRecords o) r old new → old.in_transaction ≡ false → (IsTrue old.is_open → old.now ≡ old.committed)
-    → (IsTrue new.is_open → HasCleanDisk new) → IfOk r (λ next. IsValid next new)
-valid_if_found o (Ok next) old new h outside settled law = valid_found o next old new h outside settled law
-valid_if_found o (Err e) old new h outside settled law = tt
 
 pub order_found : (db : Database) (last : ℕ) (others seqs : List ℕ) → FindsArrived db seqs → IsPermutation (range_with_len 1 last) (others ++ seqs) → FindsOrder last others db
 order_found db last others seqs h each = record {

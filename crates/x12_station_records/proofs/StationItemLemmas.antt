@@ -14,9 +14,10 @@ use Rattle.sql_rows.proofs.Tests.{int_test, one_and}
 use Rattle.sql_rows.specs.Query.{IsQuery}
 use Rattle.sql_rows.proofs.Queries.{select_asks}
 use Rattle.x12_numbers.proofs.Shelf.{some_inj}
+use Rattle.x12_profile.specs.Edition.{Marks}
 use Rattle.x12_station.specs.Durable.{item_at, item_of_arrival}
 use Rattle.x12_station.specs.History.{Submitted}
-use Rattle.x12_station.specs.Stored.{Stored, StoredSubmission, StoredArrival, IsSound}
+use Rattle.x12_station.specs.Stored.{Stored, StoredSubmission, StoredArrival, IsSound, marks_of}
 use Rattle.x12_tables.proofs.KeyLemmas.{is}
 use Rattle.x12_station_records.proofs.StationAskedLemmas.{submission_asked, arrival_asked}
 use Rattle.x12_station_records.proofs.StationAsks.{behind_number, over, find_numbered, many_numbered, finds_one, finds_key}
@@ -84,20 +85,20 @@ module _ (n : ℕ) (old new : State) (rows : List Row) (next : ℕ) (s : Stored)
       ∙ ap option_to_list (find_numbered num shown key s.arrived ∙ ap (option_map shown) (arrival_asked s sound n) ∙ over filed_shown (λ (r : StoredArrival). r.filed) (arrival_numbered s n))
 
 -- Both as items of the history.
-pub arrived_item : (n : ℕ) (o : Option StoredArrival) → option_map (item_kept n) (option_map kept_of (option_map (λ (r : StoredArrival). r.filed) o)) ≡ option_map (item_of_arrival n) o
-arrived_item n None = refl
-arrived_item n (Some r) = refl
+pub arrived_item : (marks : Marks) (n : ℕ) (o : Option StoredArrival) → option_map (item_kept marks n) (option_map kept_of (option_map (λ (r : StoredArrival). r.filed) o)) ≡ option_map (item_of_arrival marks n) o
+arrived_item marks n None = refl
+arrived_item marks n (Some r) = refl
 
 pub sent_item : (s : Stored) (n : ℕ) (bytes : List ℕ) → Some bytes ≡ option_map (λ (r : StoredSubmission). r.bytes) (submission_numbered s n) → Some (Submitted bytes) ≡ item_at s n
 sent_item s n bytes h = by (submission_numbered s n) h
   where
-    by : (o : Option StoredSubmission) → Some bytes ≡ option_map (λ (r : StoredSubmission). r.bytes) o → Some (Submitted bytes) ≡ option_or (option_map (λ (r : StoredSubmission). Submitted r.bytes) o) (option_map (item_of_arrival n) (arrival_numbered s n))
+    by : (o : Option StoredSubmission) → Some bytes ≡ option_map (λ (r : StoredSubmission). r.bytes) o → Some (Submitted bytes) ≡ option_or (option_map (λ (r : StoredSubmission). Submitted r.bytes) o) (option_map (item_of_arrival (marks_of s.origin) n) (arrival_numbered s n))
     by None h = absurd cc
     by (Some r) h = ap (λ b. Some (Submitted b)) (some_inj h)
 
-pub arrived_else : (s : Stored) (n : ℕ) → None ≡ option_map (λ (r : StoredSubmission). r.bytes) (submission_numbered s n) → option_map (item_of_arrival n) (arrival_numbered s n) ≡ item_at s n
+pub arrived_else : (s : Stored) (n : ℕ) → None ≡ option_map (λ (r : StoredSubmission). r.bytes) (submission_numbered s n) → option_map (item_of_arrival (marks_of s.origin) n) (arrival_numbered s n) ≡ item_at s n
 arrived_else s n h = by (submission_numbered s n) h
   where
-    by : (o : Option StoredSubmission) → None ≡ option_map (λ (r : StoredSubmission). r.bytes) o → option_map (item_of_arrival n) (arrival_numbered s n) ≡ option_or (option_map (λ (r : StoredSubmission). Submitted r.bytes) o) (option_map (item_of_arrival n) (arrival_numbered s n))
+    by : (o : Option StoredSubmission) → None ≡ option_map (λ (r : StoredSubmission). r.bytes) o → option_map (item_of_arrival (marks_of s.origin) n) (arrival_numbered s n) ≡ option_or (option_map (λ (r : StoredSubmission). Submitted r.bytes) o) (option_map (item_of_arrival (marks_of s.origin) n) (arrival_numbered s n))
     by None h = refl
     by (Some r) h = absurd cc

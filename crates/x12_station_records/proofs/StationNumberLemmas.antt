@@ -18,6 +18,7 @@ use Rattle.sql_rows.specs.Query.{IsQuery}
 use Rattle.sql_rows.proofs.Queries.{select_asks}
 use Rattle.x12_envelopes.specs.declared.party.Party.{Party}
 use Rattle.x12_numbers.specs.Book.{Numbers}
+use Rattle.x12_station.specs.Record.{owner_view}
 use Rattle.x12_station.specs.Stored.{Stored}
 use Rattle.sqlite.specs.Kind.TheVariants as kind
 use Rattle.x12_tables.proofs.OneRowLemmas.{shows_one}
@@ -28,7 +29,7 @@ use Rattle.x12_station_records.proofs.StationContentLemmas.{numbers_back}
 use Rattle.x12_station_records.proofs.StationTableLemmas.{numbers_is_free, with_numbers}
 use Rattle.x12_station_records.specs.StationAdopt.{AreLastNumbers}
 use Rattle.x12_station_records.specs.StationChange.{with_last_numbers}
-use Rattle.x12_station_records.specs.StationNumbers.{KeptNumbers, numbers_shown, numbers_view, numbers_kept_of}
+use Rattle.x12_station_records.specs.StationNumbers.{KeptNumbers, newest_version, numbers_shown, numbers_view, numbers_kept_of}
 use Rattle.x12_station_records.specs.StationSchema.{numbers, station_schema}
 use Rattle.x12_station_records.specs.StationTables.{other_value, numbers_row, HasTables, CanBeUsed, AreWideParties}
 use Rattle.x12_station_records.specs.declared.station_numbers.NumbersRow.{NumbersRow}
@@ -38,7 +39,11 @@ cast_other None = refl
 cast_other (Some party) = refl
 
 pub casts : (x : ℕ × NumbersRow) → cast_row (numbers 0) (with_id numbers_row x) ≡ with_id numbers_row x
-casts x = rw (cast_int x.0, cast_null, cast_int 2, cast_other x.1.owner.other, cast_int x.1.book.interchange, cast_int x.1.book.group, cast_int x.1.seq, cast_int x.1.handed, cast_int x.1.owner.noted, cast_int x.1.owner.era) refl
+casts x = rw (cast_int x.0, cast_null, cast_int x.1.version, cast_other x.1.owner.other, cast_int x.1.book.interchange, cast_int x.1.book.group, cast_int x.1.seq, cast_int x.1.handed, cast_int x.1.owner.noted, cast_int x.1.owner.era) refl
+
+-- tables of the newest version stand for their own marks
+pub newest_view : (n : NumbersRow) → n.version ≡ newest_version → numbers_view n ≡ record { origin = owner_view n.owner; book = n.book; seq = n.seq; handed = n.handed }
+newest_view n is = rw is refl
 
 pub counts : (old new : State) (book : Numbers) (seq count next : ℕ) (s : Stored) → CanBeUsed book → HasTables next old.now s → Executes count_text (Int (pos book.interchange) ∷ Int (pos book.group) ∷ Int (pos seq) ∷ []) old new (Ok count) → HasTables next new.now (with_last_numbers book seq s)
 counts old new book seq count next s used has h =
@@ -48,8 +53,9 @@ counts old new book seq count next s used has h =
     [] count_shows (λ n. true) (λ (n : NumbersRow). record n { book = book; seq = seq }) (λ x. refl) (λ x. refl) casts (omega arith) count_is.0 count h in
     with_numbers next s old new has did.1 book seq (record {
       row = record m { book = book; seq = seq };
+      version_is = has.numbers.version_is;
       are = did.0;
-      said = ap (λ (k : KeptNumbers). record k { book = book; seq = seq }) has.numbers.said;
+      said = newest_view (record m { book = book; seq = seq }) has.numbers.version_is ∙ ap (λ (k : KeptNumbers). record k { book = book; seq = seq }) (sym (newest_view m has.numbers.version_is) ∙ has.numbers.said);
       parties = has.numbers.parties;
       book = used;
     })
@@ -81,7 +87,7 @@ pub numbers_asks : IsQuery numbers_text
 unfolding everything
 numbers_asks = select_asks numbers_text ((λ s base. refl), (λ s. refl))
 
-pub loads_numbers : (old new : State) (next : ℕ) (rows : List Row) (s : Stored) (n : NumbersRow) → HasTables next old.now s → Shown numbers_text [] old new rows → AreLastNumbers n rows → numbers_view n ≡ numbers_kept_of s
+pub loads_numbers : (old new : State) (next : ℕ) (rows : List Row) (s : Stored) (n : NumbersRow) → HasTables next old.now s → Shown numbers_text [] old new rows → AreLastNumbers newest_version n rows → numbers_view n ≡ numbers_kept_of s
 loads_numbers old new next rows s n has h are =
     let m = has.numbers.row in
     let exact = shows_one numbers_text old new station_schema has.schema 0 numbers_shows numbers_names numbers_is numbers_row m has.numbers.are (λ x. refl) rows h in

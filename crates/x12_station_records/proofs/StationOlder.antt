@@ -1,5 +1,5 @@
 -- Tables of an older version are refused as such, and no others are.
-use Rattle.std.proofs.Common.{◌≡◌, ◌⊎◌, ◌∙◌, List, [], ◌∷◌, map, Ok, Err, Result, IsErr, IsErrAnd, IfErr, inl, inr, sym, ap, subst, refl, IsPermutation}
+use Rattle.std.proofs.Common.{◌≡◌, ◌⊎◌, ◌∙◌, ℕ, List, [], ◌∷◌, map, Ok, Err, Result, IsErr, IsErrAnd, IfErr, inl, inr, sym, ap, subst, refl, IsPermutation}
 use Rattle.std.proofs.lemmas.List.Sorted.{IsPermutation-sym}
 use Rattle.sqlite.specs.declared.types.Value.TheVariants.{Null}
 use Rattle.sqlite.specs.Order.{Row}
@@ -7,14 +7,13 @@ use Rattle.sqlite.specs.Program.{overlay}
 use Rattle.sqlite.specs.State.{State, HasCleanDisk, Shown}
 use Rattle.sqlite.proofs.Callers.{one_permutation, reads_as}
 use Rattle.x12_envelopes.specs.declared.party.Party.{Party}
-use Rattle.x12_station.specs.Stored.{Origin}
 use Rattle.x12_tables.proofs.AllRows.{read_rows}
 use Rattle.x12_tables.proofs.TakesLemmas.{query_fails}
 use Rattle.x12_tables.specs.Adopt.{RefusesOlder, Takes}
 use Rattle.x12_tables.specs.Fault.{IsOldVersion, TellsFailure, fault_of_table, fault_of_rows}
 use Rattle.x12_tables.specs.OneRow.{IsOfOlder}
 use Rattle.x12_tables.specs.declared.fault.RecordsFault.{RecordsFault}
-use Rattle.x12_tables.specs.declared.fault.RecordsFault.TheVariants.{Memory, OldVersion, OtherParty}
+use Rattle.x12_tables.specs.declared.fault.RecordsFault.TheVariants.{Memory, OldVersion, OtherParty, Store}
 use Rattle.x12_tables.specs.declared.fault.TableFault.{TableFault}
 use Rattle.x12_tables.specs.declared.fault.TableFault.TheVariants as table
 use Rattle.x12_station_records.proofs.StationAdoptReads.{numbers_reads}
@@ -24,25 +23,25 @@ use Rattle.x12_station_records.specs.StationSchema.{station_schema}
 use Rattle.x12_station_records.specs.StationTaken.{HoldsOlder, HoldsStationOf, RefusesLeft}
 
 -- The row that the query shows is the one of the table.
-module _ (old new : State) (has : old.now.schema ≡ station_schema) (rows : List Row) (shown : Shown numbers_text [] old new rows) where
-  pub older_found : IsOfOlder 2 rows → HoldsOlder old.now
+module _ (oldest : ℕ) (old new : State) (has : old.now.schema ≡ station_schema) (rows : List Row) (shown : Shown numbers_text [] old new rows) where
+  pub older_found : IsOfOlder oldest rows → HoldsOlder oldest old.now
   older_found are =
       let got = reads_as numbers_text [] old new station_schema has numbers_command numbers_is.0 numbers_is.2 numbers_is.1 rows shown in
       let all = read_rows 0 numbers_shows [] (overlay old.now.trees []) rows (got.answer Null) in
-      found all.0 all.1 (subst (IsOfOlder 2) all.2 are)
+      found all.0 all.1 (subst (IsOfOlder oldest) all.2 are)
     where
-      found : (rs : List Row) → IsPermutation (old.now.trees 0) rs → IsOfOlder 2 (map show_numbers rs) → HoldsOlder old.now
+      found : (rs : List Row) → IsPermutation (old.now.trees 0) rs → IsOfOlder oldest (map show_numbers rs) → HoldsOlder oldest old.now
       found [] moved are = absurd are
       found (r ∷ []) moved are = record { schema = has; row = r; one = one_permutation r (old.now.trees 0) (IsPermutation-sym (old.now.trees 0) (r ∷ []) moved); version = are.0; version_is = are.1; older = (are.2, are.3) }
       found (r ∷ s ∷ rs) moved are = absurd are
 
-  pub older_shown : HoldsOlder old.now → IsOfOlder 2 rows
+  pub older_shown : HoldsOlder oldest old.now → IsOfOlder oldest rows
   older_shown o =
       let got = reads_as numbers_text [] old new station_schema has numbers_command numbers_is.0 numbers_is.2 numbers_is.1 rows shown in
       let all = read_rows 0 numbers_shows [] (overlay old.now.trees []) rows (got.answer Null) in
       let one : all.0 ≡ o.row ∷ [] = one_permutation o.row all.0 (subst (λ tree. IsPermutation tree all.0) o.one all.1) in
       let exact : rows ≡ show_numbers o.row ∷ [] = all.2 ∙ ap (map show_numbers) one in
-      subst (IsOfOlder 2) (sym exact) (o.version, o.version_is, o.older.0, o.older.1)
+      subst (IsOfOlder oldest) (sym exact) (o.version, o.version_is, o.older.0, o.older.1)
 
 pub told_old : {B : Type 0} (r : Result B TableFault) (more : Type 0) → IsErrAnd r IsOldVersion → IsErrAnd r (λ e. (e ≡ table.OldVersion) ⊎ (e ≡ table.Memory) ⊎ more)
 told_old (Ok x) more h = absurd h
@@ -52,10 +51,10 @@ same_fault : {B E : Type 0} (e f : E) → ◌≡◌ {A = Result B E} (Err e) (Er
 same_fault e f same = cc
 
 -- the query failed
-pub older_asked : {A B : Type 0} (old new : State) (fault : TableFault) (r : Result B TableFault) → IsErrAnd r (λ f. f ≡ fault) → (◌≡◌ {A = Result A TableFault} (Err fault) (Err table.OldVersion) → ⊥)
-    → (HasCleanDisk new → old.now.schema ≡ station_schema → TellsFailure numbers_text old new fault) → RefusesOlder HoldsOlder table.OldVersion table.Memory r old new
-older_asked old new fault (Ok y) is known fails = absurd is
-older_asked old new fault (Err f) is known fails = record {
+pub older_asked : {A B : Type 0} (oldest : ℕ) (old new : State) (fault : TableFault) (r : Result B TableFault) → IsErrAnd r (λ f. f ≡ fault) → (◌≡◌ {A = Result A TableFault} (Err fault) (Err table.OldVersion) → ⊥)
+    → (HasCleanDisk new → old.now.schema ≡ station_schema → TellsFailure numbers_text old new fault) → RefusesOlder (HoldsOlder oldest) table.OldVersion table.Memory r old new
+older_asked oldest old new fault (Ok y) is known fails = absurd is
+older_asked oldest old new fault (Err f) is known fails = record {
   only = λ clean same. absurd (known (ap Err (sym is ∙ same_fault f table.OldVersion same)));
   older = λ clean ready o. inr (elim (query_fails station_schema 0 numbers_shows [] numbers_names numbers_text numbers_reads old new fault o.schema ready (fails clean o.schema)) [ inl memory ↦ inl (is ∙ memory) | inr more ↦ inr more ]);
 }
@@ -67,9 +66,9 @@ old_by table.Store h = absurd cc
 old_by table.Memory h = absurd cc
 
 -- it fails, and so does what asks it
-pub older_failed : {A B : Type 0} (e : TableFault) (r : Result B RecordsFault) (a b : State) → IsErrAnd r (λ f. f ≡ fault_of_table e) → RefusesOlder {A = A} HoldsOlder table.OldVersion table.Memory (Err e) a b → RefusesOlder HoldsOlder OldVersion Memory r a b
-older_failed e (Ok y) a b is first = absurd is
-older_failed e (Err f) a b is first = record {
+pub older_failed : {A B : Type 0} (oldest : ℕ) (e : TableFault) (r : Result B RecordsFault) (a b : State) → IsErrAnd r (λ f. f ≡ fault_of_table e) → RefusesOlder {A = A} (HoldsOlder oldest) table.OldVersion table.Memory (Err e) a b → RefusesOlder (HoldsOlder oldest) OldVersion Memory r a b
+older_failed oldest e (Ok y) a b is first = absurd is
+older_failed oldest e (Err f) a b is first = record {
   only = λ clean same. first.only clean (ap Err (old_by e (sym is ∙ same_fault f OldVersion same)));
   older = λ clean ready o. elim (first.older clean ready o) [
     | inl old ↦ inl (is ∙ ap fault_of_table old)
@@ -79,8 +78,8 @@ older_failed e (Err f) a b is first = record {
 }
 
 -- what goes on behind it isn't of an older version
-pub older_behind : {A B E : Type 0} (o m : E) (x : A) (r : Result B RecordsFault) (a b c : State) → RefusesOlder HoldsOlder o m (Ok x) a b → (HasCleanDisk c → HasCleanDisk b) → (r ≡ Err OldVersion → ⊥) → RefusesOlder HoldsOlder OldVersion Memory r a c
-older_behind o m x r a b c first mid known = record {
+pub older_behind : {A B E : Type 0} (oldest : ℕ) (o m : E) (x : A) (r : Result B RecordsFault) (a b c : State) → RefusesOlder (HoldsOlder oldest) o m (Ok x) a b → (HasCleanDisk c → HasCleanDisk b) → (r ≡ Err OldVersion → ⊥) → RefusesOlder (HoldsOlder oldest) OldVersion Memory r a c
+older_behind oldest o m x r a b c first mid known = record {
   only = λ clean is. absurd (known is);
   older = λ clean ready h. absurd (first.older (mid clean) ready h);
 }
@@ -92,6 +91,11 @@ never_old x same = absurd cc
 pub passed_on : {A B : Type 0} (e : RecordsFault) (r : Result B RecordsFault) → IsErrAnd r (λ f. f ≡ e) → (◌≡◌ {A = Result A RecordsFault} (Err e) (Err OldVersion) → ⊥) → r ≡ Err OldVersion → ⊥
 passed_on e (Ok x) is known same = is
 passed_on e (Err f) is known same = known (ap Err (sym is ∙ same_fault f OldVersion same))
+
+-- a row out of form is none of the version
+pub store_not_old : {A B : Type 0} (e : RecordsFault) (r : Result B RecordsFault) → IsErrAnd r (λ f. f ≡ e) → ◌≡◌ {A = Result A RecordsFault} (Err e) (Err Store) → r ≡ Err OldVersion → ⊥
+store_not_old e (Ok x) is fault same = is
+store_not_old e (Err f) is fault same = absurd (let clash = sym (sym is ∙ same_fault f OldVersion same) ∙ same_fault e Store fault in cc)
 
 -- a fault of other rows is none of the version, and names no party
 pub rows_not_old : {B : Type 0} (e : TableFault) (f : RecordsFault) → f ≡ fault_of_rows e → ◌≡◌ {A = Result B RecordsFault} (Err f) (Err OldVersion) → ⊥
@@ -113,9 +117,10 @@ rows_name_none e f found wanted is same = by e (sym is ∙ same_fault f (OtherPa
     by table.Memory h = absurd cc
 
 -- what was left is taken, or refused for a cause
-pub left_refused : {B : Type 0} (o : Origin) (r : Result B RecordsFault) (old new : State) → Takes (HoldsStationOf o) Memory r old new → RefusesOlder HoldsOlder OldVersion Memory r old new → HasCleanDisk new → IfErr r (λ e. RefusesLeft o e old new)
-left_refused o (Ok x) old new takes refuses clean = tt
-left_refused o (Err e) old new takes refuses clean = record {
+pub left_refused : {B : Type 0} (oldest : ℕ) (party : Party) (hubs : List Party) (r : Result B RecordsFault) (old new : State) → Takes (HoldsStationOf oldest party hubs) Memory r old new → RefusesOlder (HoldsOlder oldest) OldVersion Memory r old new → HasCleanDisk new
+    → IfErr r (λ e. RefusesLeft oldest party hubs e old new)
+left_refused oldest party hubs (Ok x) old new takes refuses clean = tt
+left_refused oldest party hubs (Err e) old new takes refuses clean = record {
   own = λ left. takes.taken clean left.ready left.holds;
   older = λ left. refuses.older clean left.ready left.holds;
 }
@@ -125,9 +130,9 @@ refused_so (Ok x) P h = absurd h
 refused_so (Err e) P h = refl
 
 -- the same fault, behind the same call
-pub older_on : {A B : Type 0} (e : RecordsFault) (r : Result B RecordsFault) (a b : State) → IsErrAnd r (λ f. f ≡ e) → RefusesOlder {A = A} HoldsOlder OldVersion Memory (Err e) a b → RefusesOlder HoldsOlder OldVersion Memory r a b
-older_on e (Ok y) a b is first = absurd is
-older_on e (Err f) a b is first = record {
+pub older_on : {A B : Type 0} (oldest : ℕ) (e : RecordsFault) (r : Result B RecordsFault) (a b : State) → IsErrAnd r (λ f. f ≡ e) → RefusesOlder {A = A} (HoldsOlder oldest) OldVersion Memory (Err e) a b → RefusesOlder (HoldsOlder oldest) OldVersion Memory r a b
+older_on oldest e (Ok y) a b is first = absurd is
+older_on oldest e (Err f) a b is first = record {
   only = λ clean same. first.only clean (ap Err (sym is ∙ same_fault f OldVersion same));
   older = λ clean ready o. elim (first.older clean ready o) [
     | inl old ↦ inl (is ∙ old)

@@ -39,7 +39,7 @@ unfolding understood everything
 start_is = (refl, (refl, refl))
 
 abbrev first_numbers : Party → Hubs → NumbersRow
-first_numbers party hubs = record { owner = record { party = party; hub = hubs.hub; other = hubs.other; noted = 0; era = 0 }; book = new_book; seq = 0; handed = 0 }
+first_numbers party hubs = record { version = 2; owner = record { party = party; hub = hubs.hub; other = hubs.other; noted = 0; era = 0 }; book = new_book; seq = 0; handed = 0 }
 
 abbrev pub start_params : Party → Hubs → Row
 start_params party hubs = Blob (bytes_of_party party) ∷ Blob (bytes_of_party hubs.hub) ∷ other_value hubs.other ∷ []
@@ -55,7 +55,7 @@ starts old new party hubs count two also third has h =
     record {
       has = record {
         schema = did.1.schema_is;
-        numbers = record { row = first.1; are = did.0; said = refl; parties = (two, (also, third)); book = (omega arith, omega arith) };
+        numbers = record { row = first.1; version_is = refl; are = did.0; said = refl; parties = (two, (also, third)); book = (omega arith, omega arith) };
         agreements = record {
           at = [];
           are = no_rows pair_row (new.now.trees 1) (rest.0 (λ z. omega (arith, z)) ∙ has.empty.1.0);

@@ -12,7 +12,7 @@ use Rattle.x12_acks.specs.Accepted.{AcceptedSet}
 use Rattle.x12_judge.specs.Agreement.{TradingAgreement}
 use Rattle.x12_numbers.specs.Book.{Numbers}
 use Rattle.x12_station.specs.Stored.{Stored, StoredSubmission, StoredSet, StoredArrival}
-use Rattle.x12_station_records.specs.StationNumbers.{numbers_kept_of}
+use Rattle.x12_station_records.specs.StationNumbers.{newest_version, numbers_kept_of}
 use Rattle.x12_station_records.specs.StationSchema.{station_schema, agreement, inbound, numbers, outbound, posting, outset}
 use Rattle.x12_station_records.specs.StationTables.{HoldsArrivals, row_of_set, HasTables, HoldsPostings, HoldsSubmissions, HoldsAgreements, IsWideSet, HoldsNumbersRow}
 
@@ -36,7 +36,7 @@ pub posting_is_free : (taken news : List Row) → works station_schema Enforced 
 posting_is_free taken news = elim (cases_Bool (length news == 0)) [ inl none ↦ rw none refl | inr some ↦ rw some refl ]
 
 module _ (next : ℕ) (s : Stored) (old new : State) (has : HasTables next old.now s) where
-  pub with_numbers : OnlyTable station_schema (numbers 0) old new → (book : Numbers) (seq : ℕ) → HoldsNumbersRow (record (numbers_kept_of s) { book = book; seq = seq }) (new.now.trees 0) → HasTables next new.now (record s { book = book; seq = seq })
+  pub with_numbers : OnlyTable station_schema (numbers 0) old new → (book : Numbers) (seq : ℕ) → HoldsNumbersRow newest_version (record (numbers_kept_of s) { book = book; seq = seq }) (new.now.trees 0) → HasTables next new.now (record s { book = book; seq = seq })
   with_numbers only book seq holds = record {
     schema = only.schema_is;
     numbers = holds;
@@ -51,7 +51,7 @@ module _ (next : ℕ) (s : Stored) (old new : State) (has : HasTables next old.n
   pub with_agreements : OnlyTable station_schema (agreement 1) old new → (to : ℕ) (xs : List TradingAgreement) → HoldsAgreements to xs (new.now.trees 1) → HasTables to new.now (record s { agreements = xs })
   with_agreements only to xs holds = record {
     schema = only.schema_is;
-    numbers = subst (HoldsNumbersRow (numbers_kept_of s)) (sym (only.others.0 (λ z. omega (arith, z)))) has.numbers;
+    numbers = subst (HoldsNumbersRow newest_version (numbers_kept_of s)) (sym (only.others.0 (λ z. omega (arith, z)))) has.numbers;
     agreements = holds;
     submitted = subst (HoldsSubmissions s.submitted) (sym (only.others.1.1.0 (λ z. omega (arith, z)))) has.submitted;
     sets = subst (AreRows row_of_set (enumerate_from 1 s.sets)) (sym (only.others.1.1.1.0 (λ z. omega (arith, z)))) has.sets;
@@ -63,7 +63,7 @@ module _ (next : ℕ) (s : Stored) (old new : State) (has : HasTables next old.n
   pub with_submitted : OnlyTable station_schema (outbound 3) old new → (xs : List StoredSubmission) → HoldsSubmissions xs (new.now.trees 3) → HasTables next new.now (record s { submitted = xs })
   with_submitted only xs holds = record {
     schema = only.schema_is;
-    numbers = subst (HoldsNumbersRow (numbers_kept_of s)) (sym (only.others.0 (λ z. omega (arith, z)))) has.numbers;
+    numbers = subst (HoldsNumbersRow newest_version (numbers_kept_of s)) (sym (only.others.0 (λ z. omega (arith, z)))) has.numbers;
     agreements = subst (HoldsAgreements next s.agreements) (sym (only.others.1.0 (λ z. omega (arith, z)))) has.agreements;
     submitted = holds;
     sets = subst (AreRows row_of_set (enumerate_from 1 s.sets)) (sym (only.others.1.1.1.0 (λ z. omega (arith, z)))) has.sets;
@@ -75,7 +75,7 @@ module _ (next : ℕ) (s : Stored) (old new : State) (has : HasTables next old.n
   pub with_sets : OnlyTable station_schema (outset 4) old new → (xs : List StoredSet) → AreRows row_of_set (enumerate_from 1 xs) (new.now.trees 4) → AllByRecursion IsWideSet xs → HasTables next new.now (record s { sets = xs })
   with_sets only xs are wide = record {
     schema = only.schema_is;
-    numbers = subst (HoldsNumbersRow (numbers_kept_of s)) (sym (only.others.0 (λ z. omega (arith, z)))) has.numbers;
+    numbers = subst (HoldsNumbersRow newest_version (numbers_kept_of s)) (sym (only.others.0 (λ z. omega (arith, z)))) has.numbers;
     agreements = subst (HoldsAgreements next s.agreements) (sym (only.others.1.0 (λ z. omega (arith, z)))) has.agreements;
     submitted = subst (HoldsSubmissions s.submitted) (sym (only.others.1.1.0 (λ z. omega (arith, z)))) has.submitted;
     sets = are;
@@ -87,7 +87,7 @@ module _ (next : ℕ) (s : Stored) (old new : State) (has : HasTables next old.n
   pub with_arrived : OnlyTable station_schema (inbound 6) old new → (xs : List StoredArrival) → HoldsArrivals xs (new.now.trees 6) → HasTables next new.now (record s { arrived = xs })
   with_arrived only xs holds = record {
     schema = only.schema_is;
-    numbers = subst (HoldsNumbersRow (numbers_kept_of s)) (sym (only.others.0 (λ z. omega (arith, z)))) has.numbers;
+    numbers = subst (HoldsNumbersRow newest_version (numbers_kept_of s)) (sym (only.others.0 (λ z. omega (arith, z)))) has.numbers;
     agreements = subst (HoldsAgreements next s.agreements) (sym (only.others.1.0 (λ z. omega (arith, z)))) has.agreements;
     submitted = subst (HoldsSubmissions s.submitted) (sym (only.others.1.1.0 (λ z. omega (arith, z)))) has.submitted;
     sets = subst (AreRows row_of_set (enumerate_from 1 s.sets)) (sym (only.others.1.1.1.0 (λ z. omega (arith, z)))) has.sets;
@@ -99,7 +99,7 @@ module _ (next : ℕ) (s : Stored) (old new : State) (has : HasTables next old.n
   pub with_postings : OnlyTable station_schema (posting 8) old new → (xs : List AcceptedSet) → HoldsPostings xs (new.now.trees 8) → HasTables next new.now (record s { postings = xs })
   with_postings only xs holds = record {
     schema = only.schema_is;
-    numbers = subst (HoldsNumbersRow (numbers_kept_of s)) (sym (only.others.0 (λ z. omega (arith, z)))) has.numbers;
+    numbers = subst (HoldsNumbersRow newest_version (numbers_kept_of s)) (sym (only.others.0 (λ z. omega (arith, z)))) has.numbers;
     agreements = subst (HoldsAgreements next s.agreements) (sym (only.others.1.0 (λ z. omega (arith, z)))) has.agreements;
     submitted = subst (HoldsSubmissions s.submitted) (sym (only.others.1.1.0 (λ z. omega (arith, z)))) has.submitted;
     sets = subst (AreRows row_of_set (enumerate_from 1 s.sets)) (sym (only.others.1.1.1.0 (λ z. omega (arith, z)))) has.sets;

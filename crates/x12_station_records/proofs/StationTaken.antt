@@ -27,7 +27,7 @@ use Rattle.x12_station_records.proofs.StationNumberLemmas.{numbers_shows, number
 use Rattle.x12_station_records.specs.StationAdopt.{ArePairs, IsSubmission, IsArrivalRow, ArePostings}
 use Rattle.x12_station_records.specs.StationAgreed.{pair_shown, AreKept}
 use Rattle.x12_station_records.specs.StationContent.{agreements_of, content_of}
-use Rattle.x12_station_records.specs.StationNumbers.{KeptNumbers}
+use Rattle.x12_station_records.specs.StationNumbers.{KeptNumbers, newest_version}
 use Rattle.x12_station_records.specs.StationSchema.{station_schema}
 use Rattle.x12_station_records.specs.StationTables.{numbers_row, AreWideParties, other_value, AgreedPair, IsWidePair, by_icn, by_seq, IsWidePosting, posting_row, CanBeUsed, arrival_row, submission_row, pair_row, lenient_number}
 use Rattle.x12_station_records.specs.StationTaken.{IsNumbersRow, HasPair, AreChained, ArePairsKept, IsOneNumbersRow, HoldsStation}
@@ -163,15 +163,16 @@ module _ (old new : State) (h : HoldsStation old.now) (rows : List Row) where
   abbrev Kept : Stored
   Kept = content_of old.now.trees
 
-  pub numbers_taken : Shown numbers_text [] old new rows → IsOneNumbersRow rows
-  numbers_taken shown =
+  pub numbers_taken : (oldest : ℕ) → (oldest ≤ h.version) × (h.version ≤ newest_version) → Shown numbers_text [] old new rows → IsOneNumbersRow oldest rows
+  numbers_taken oldest known shown =
       let has = h.holds.has in
       let m = has.numbers.row in
       let said = has.numbers.said in
       let exact = shows_one numbers_text old new station_schema has.schema 0 numbers_shows numbers_names numbers_is numbers_row m has.numbers.are (λ x. refl) rows shown in
       let book : CanBeUsed m.book = subst (λ (k : KeptNumbers). CanBeUsed k.book) (sym said) has.numbers.book in
       let few : m.seq ≤ 2 ^ 63 - 1 = subst (λ (k : KeptNumbers). k.seq ≤ 2 ^ 63 - 1) (sym said) h.sound.few in
-      subst IsOneNumbersRow (sym exact) ((refl, refl), (numbers_row_is m has.numbers.parties book.0 book.1 few, tt))
+      let within : (oldest ≤ m.version) × (m.version ≤ newest_version) = subst (λ (v : ℕ). (oldest ≤ v) × (v ≤ newest_version)) (sym has.numbers.version_is) known in
+      subst (IsOneNumbersRow oldest) (sym exact) ((refl, m.version, refl, within.0, within.1), (numbers_row_is m has.numbers.parties book.0 book.1 few, tt))
 
   pub pairs_taken : Shown pairs_text [] old new rows → (end : ℕ) × ArePairs 0 end rows × (end + 1 < 2 ^ 64) × ArePairsKept rows
   pairs_taken shown =

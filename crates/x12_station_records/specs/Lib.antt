@@ -8,6 +8,7 @@ pub mod StationEntries
 pub mod StationFinds
 pub mod StationGroups
 pub mod StationLaw
+pub mod StationMigrate
 pub mod StationNumbers
 pub mod StationOpen
 pub mod StationPart

@@ -16,15 +16,16 @@ use Rattle.x12_outbound.specs.Entry.{GroupRow, submission_of_entry}
 use Rattle.x12_outbound.specs.Ledger.{AreInOrder}
 use Rattle.x12_station.specs.Closed.{above_groups}
 use Rattle.x12_station.specs.Record.{owner_view}
-use Rattle.x12_station.specs.Stored.{Origin, Stored, StoredSet, IsSound, origin_of, entries, rows_of_entry, HasSets, IsNumberedBy}
+use Rattle.x12_station.specs.Stored.{Origin, Stored, StoredSet, IsSound, entries, rows_of_entry, HasSets, IsNumberedBy}
 use Rattle.x12_tables.specs.Adopt.{ObeysSchema}
 use Rattle.x12_tables.specs.OneRow.{whole, IsOneRow}
 use Rattle.x12_tables.specs.Party.{bytes_in, IsParty}
 use Rattle.x12_station_records.specs.StationAgreed.{AreKept, pair_shown}
 use Rattle.x12_station_records.specs.StationContent.{fate_numbered, lenient_numbered, agreements_of, content_of}
 use Rattle.x12_station_records.specs.StationGroups.{set_shown, AreWhole, AreSendable, rows_of_groups}
+use Rattle.x12_station_records.specs.StationNumbers.{AreMarked, newest_version, numbers_kept_of, numbers_view}
 use Rattle.x12_station_records.specs.StationOpen.{are_between}
-use Rattle.x12_station_records.specs.StationPlan.{HoldsRows}
+use Rattle.x12_station_records.specs.StationPlan.{HoldsRowsOf}
 use Rattle.x12_station_records.specs.StationSchema.{station_schema}
 use Rattle.x12_station_records.specs.StationTables.{fate_number, lenient_number, numbers_row, AreWideParties, CanBeUsed, HoldsAgreements, HoldsSubmissions, row_of_set, IsWideSet, HoldsArrivals, HoldsPostings}
 use Rattle.x12_station_records.specs.declared.station_committing.NextRows.{NextRows}
@@ -50,9 +51,11 @@ IsFate v = v ≡ Int (pos (fate_number (fate_numbered (number_in v))))
 abbrev pub IsLenient : Value → Type 0
 IsLenient v = v ≡ Int (pos (lenient_number (lenient_numbered (number_in v))))
 
--- there is one row, of all columns of these numbers, of which the last one can be written
-pub record AreLastNumbers (n : NumbersRow) (rows : List Row) : Type 0 where
+-- there is one row, of all columns of these numbers, of a version from this one to the newest; the last
+-- number can be written
+pub record AreLastNumbers (oldest : ℕ) (n : NumbersRow) (rows : List Row) : Type 0 where
   pub row : IsOneRow (whole (with_id numbers_row (1, n))) rows
+  pub known : (oldest ≤ n.version) × (n.version ≤ newest_version)
   pub few : n.seq ≤ 2 ^ 63 - 1
   pub parties : AreWideParties n.owner
   pub book : CanBeUsed n.book
@@ -176,17 +179,25 @@ pub record HasEntries (book : Numbers) (s : Stored) : Type 0 where
   pub used : All (IsNumberedBy book) (entries s)
 
 -- What calls find of a database, each by the content that its tables stand for.
--- The database obeys the schema, and has these last numbers.
-pub record FindsNumbers (db : Database) (n : NumbersRow) : Type 0 where
+-- The database obeys the schema, and has these last numbers, of a version from this one to the newest.
+pub record FindsNumbers (oldest : ℕ) (db : Database) (n : NumbersRow) : Type 0 where
   pub obeys : ObeysSchema station_schema db
+  pub known : (oldest ≤ n.version) × (n.version ≤ newest_version)
   pub rows : AreRows numbers_row ((1, n) ∷ []) (db.trees 0)
   pub few : n.seq ≤ 2 ^ 63 - 1
   pub parties : AreWideParties n.owner
   pub book : CanBeUsed n.book
 
--- The same, of the station of this party at these hubs, which reads each arrival alike.
-abbrev pub FindsOwn : Party → List Party → Database → NumbersRow → Type 0
-FindsOwn party hubs db n = FindsNumbers db n × (owner_view n.owner ≡ origin_of party hubs)
+-- records are those of this party at these hubs, however many arrivals are read as before
+abbrev pub IsOriginOf : Party → List Party → Origin → Type 0
+IsOriginOf party hubs o = (o.me ≡ party) × (o.hubs ≡ hubs)
+
+-- The same, of the station of this party at these hubs, with marks in their order.
+pub record FindsOwn (oldest : ℕ) (party : Party) (hubs : List Party) (db : Database) (n : NumbersRow)
+    : Type 0 where
+  pub numbers : FindsNumbers oldest db n
+  pub own : IsOriginOf party hubs (owner_view n.owner)
+  pub marked : AreMarked (numbers_view n)
 
 -- The agreements, and the number of the next pair.
 pub record FindsAgreed (db : Database) (next : ℕ) : Type 0 where
@@ -245,14 +256,19 @@ pub record FindsRows (n : NumbersRow) (db : Database) (next : NextRows) : Type 0
   pub order : FindsOrder n.seq (map (λ x. x.1) sent) db
   pub posted : FindsHanded n.handed db next.posting
 
--- Records of this origin were found in a database that is open, and stays as it was.
-pub record AreFoundAtStation (o : Origin) (old new : State) : Type 0 where
+-- Records of this party at these hubs were found in a database that is open, and stays as it was.
+pub record AreFoundAtStation (party : Party) (hubs : List Party) (old new : State) : Type 0 where
   pub is_open : IsTrue new.is_open
   pub same : new.now ≡ old.now
-  pub own : (content_of old.now.trees).origin ≡ o
+  pub own : IsOriginOf party hubs (content_of old.now.trees).origin
 
--- the tables hold sound records of this origin, which are what they stand for
-pub record FindsRecords (o : Origin) (db : Database) (next : NextRows) : Type 0 where
-  pub holds : HoldsRows next db (content_of db.trees)
+-- The tables, of a version from this one to the newest, hold sound records of this party at these hubs,
+-- which are what they stand for; these are the numbers of the next rows, and the row of numbers.
+pub record FindsRecords (oldest : ℕ) (party : Party) (hubs : List Party) (db : Database)
+    (x : NextRows × NumbersRow) : Type 0 where
+  pub known : (oldest ≤ x.1.version) × (x.1.version ≤ newest_version)
+  pub holds : HoldsRowsOf x.1.version x.0 db (content_of db.trees)
   pub sound : IsSound (content_of db.trees)
-  pub origin : (content_of db.trees).origin ≡ o
+  pub own : IsOriginOf party hubs (content_of db.trees).origin
+  pub marked : AreMarked (numbers_kept_of (content_of db.trees))
+  pub said : numbers_kept_of (content_of db.trees) ≡ numbers_view x.1

@@ -15,7 +15,7 @@ use Rattle.x12_station.specs.Stored.{Stored, StoredSubmission, StoredSet, Stored
 use Rattle.x12_tables.specs.First.{first_row}
 use Rattle.x12_tables.specs.OneRow.{whole}
 use Rattle.x12_tables.specs.Party.{bytes_in, party_in}
-use Rattle.x12_station_records.specs.StationNumbers.{KeptNumbers, numbers_shown}
+use Rattle.x12_station_records.specs.StationNumbers.{AreMarked, KeptNumbers, numbers_kept_of, numbers_shown}
 use Rattle.x12_station_records.specs.StationPlan.{HoldsRows}
 use Rattle.x12_station_records.specs.StationTables.{AgreedPair}
 use Rattle.x12_station_records.specs.declared.station_committing.NextRows.{NextRows}
@@ -139,12 +139,13 @@ content_of db = record {
 }
 
 -- Between the calls no transaction is open; and while the store is, what is seen is committed, and is
--- the tables of sound records, with these numbers for the next rows.
+-- the tables of sound records of the newest version, with these numbers for the next rows.
 pub record IsValid (next : NextRows) (s : State) : Type 0 where
   pub outside : s.in_transaction ≡ false
   pub settled : IsTrue s.is_open → s.now ≡ s.committed
   pub holds : IsTrue s.is_open → HoldsRows next s.now (content_of s.now.trees)
   pub sound : IsTrue s.is_open → IsSound (content_of s.now.trees)
+  pub marked : IsTrue s.is_open → AreMarked (numbers_kept_of (content_of s.now.trees))
 
 -- what may be held after a crash at this moment
 abbrev pub MayHold : State → Stored → Type 0

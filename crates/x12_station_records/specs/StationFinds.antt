@@ -7,7 +7,7 @@ use Rattle.x12_inbound.specs.Filing.{FiledInterchange, reply_bytes}
 use Rattle.x12_inbound.specs.Order.{InterchangeKey}
 use Rattle.x12_inbound.specs.Register.{is_under}
 use Rattle.x12_outbound.specs.declared.fate.Fate.{Fate}
-use Rattle.x12_profile.specs.Edition.{edition_at, no_marks}
+use Rattle.x12_profile.specs.Edition.{Marks, edition_at}
 use Rattle.x12_station.specs.History.{Item, Came}
 use Rattle.x12_station.specs.Stored.{Stored, StoredSubmission, StoredArrival}
 use Rattle.x12_station_records.specs.StationTables.{fate_number, reply_value}
@@ -51,6 +51,6 @@ submission_numbered s n = find (λ r. r.seq == n) s.submitted
 abbrev pub arrival_numbered : Stored → ℕ → Option StoredArrival
 arrival_numbered s n = find (λ r. r.seq == n) s.arrived
 
--- what is filed of a first arrival of this number, as an item of the history
-abbrev pub item_kept : ℕ → List ℕ × Option (List ℕ) → Item
-item_kept n kept = Came (edition_at no_marks n) kept.0 kept.1
+-- what is filed of a first arrival of this number, as an item of the history with these marks
+abbrev pub item_kept : Marks → ℕ → List ℕ × Option (List ℕ) → Item
+item_kept marks n kept = Came (edition_at marks n) kept.0 kept.1

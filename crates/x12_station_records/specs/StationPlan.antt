@@ -6,14 +6,19 @@ use Rattle.sql_rows.specs.Kept.{Wrote, Committed, Stays, MayBecome}
 use Rattle.x12_station.specs.Plan.{Commit, Change, Submits, Files, Agrees, TakesNumbers, changed, stored_after}
 use Rattle.x12_station.specs.Stored.{Stored, row_of_entry}
 use Rattle.x12_station_records.specs.StationChange.{HasNextPosting, HasNextSet, RisesBySeq, arrival_of, RisesByNumber, SetsOnce}
-use Rattle.x12_station_records.specs.StationTables.{HasTables}
+use Rattle.x12_station_records.specs.StationNumbers.{newest_version}
+use Rattle.x12_station_records.specs.StationTables.{HasTablesOf}
 use Rattle.x12_station_records.specs.declared.station_committing.NextRows.{NextRows}
 
--- the tables hold these records, and the next rows get these numbers
-pub record HoldsRows (next : NextRows) (db : Database) (s : Stored) : Type 0 where
-  pub has : HasTables next.agreement db s
+-- the tables of this version hold these records, and the next rows get these numbers
+pub record HoldsRowsOf (version : ℕ) (next : NextRows) (db : Database) (s : Stored) : Type 0 where
+  pub has : HasTablesOf version next.agreement db s
   pub sets : HasNextSet next.set s
   pub postings : HasNextPosting next.posting s
+
+-- the same, of the newest version
+abbrev pub HoldsRows : NextRows → Database → Stored → Type 0
+HoldsRows = HoldsRowsOf newest_version
 
 -- A change fits the records: a submission's control number or an arrival's number is above all, and
 -- no place is that of two transaction sets.

@@ -17,7 +17,7 @@ use Rattle.x12_outbound.specs.declared.fate.Fate.{Fate}
 use Rattle.x12_station.specs.Stored.{Stored, StoredSubmission, StoredSet, StoredArrival}
 use Rattle.x12_station.specs.declared.records.Owner.{Owner}
 use Rattle.x12_tables.specs.Party.{bytes_of_party, IsWideParty}
-use Rattle.x12_station_records.specs.StationNumbers.{KeptNumbers, numbers_view, numbers_kept_of}
+use Rattle.x12_station_records.specs.StationNumbers.{KeptNumbers, newest_version, numbers_view, numbers_kept_of}
 use Rattle.x12_station_records.specs.StationSchema.{station_schema}
 use Rattle.x12_station_records.specs.declared.station_numbers.NumbersRow.{NumbersRow}
 use Rattle.x12_outbound.specs.declared.fate.Fate.TheVariants.{Pending, Accepted, Noted, Rejected}
@@ -27,12 +27,12 @@ abbrev pub other_value : Option Party → Value
 other_value None = Null
 other_value (Some party) = Blob (bytes_of_party party)
 
--- version 2 of the tables, whose the records are, the last control numbers, the last number of a
+-- the version of the tables, whose the records are, the last control numbers, the last number of a
 -- submission or first arrival, how many postings were handed over, and up to which numbers an arrival
 -- is read as before
 abbrev pub numbers_row : NumbersRow → Row
 numbers_row n =
-    Null ∷ Int (pos 2) ∷ Blob (bytes_of_party n.owner.party) ∷ Blob (bytes_of_party n.owner.hub)
+    Null ∷ Int (pos n.version) ∷ Blob (bytes_of_party n.owner.party) ∷ Blob (bytes_of_party n.owner.hub)
     ∷ other_value n.owner.other ∷ Int (pos n.book.interchange) ∷ Int (pos n.book.group)
     ∷ Int (pos n.seq) ∷ Int (pos n.handed) ∷ Int (pos n.owner.noted) ∷ Int (pos n.owner.era) ∷ []
 
@@ -128,9 +128,10 @@ pub record IsWidePosting (p : AcceptedSet) : Type 0 where
 abbrev pub CanBeUsed : Numbers → Type 0
 CanBeUsed book = (book.interchange ≤ MAX_CONTROL_NUMBER) × (book.group ≤ MAX_CONTROL_NUMBER)
 
--- the row says these numbers
-pub record HoldsNumbersRow (n : KeptNumbers) (rows : List Row) : Type 0 where
+-- the row says these numbers, in tables of this version
+pub record HoldsNumbersRow (version : ℕ) (n : KeptNumbers) (rows : List Row) : Type 0 where
   pub row : NumbersRow
+  pub version_is : row.version ≡ version
   pub are : AreRows numbers_row ((1, row) ∷ []) rows
   pub said : numbers_view row ≡ n
   pub parties : AreWideParties row.owner
@@ -169,14 +170,18 @@ pub record HoldsPostings (postings : List AcceptedSet) (rows : List Row) : Type 
   pub parties : AllByRecursion (λ p. IsWideParty p.key.sender) postings
   pub wide : AllByRecursion IsWidePosting postings
 
--- The tables hold these records: one row of numbers, the agreements, the submissions and their
--- transaction sets under their places from 1, the first arrivals and their postings.
-pub record HasTables (next : ℕ) (db : Database) (s : Stored) : Type 0 where
+-- The tables of this version hold these records: one row of numbers, the agreements, the submissions
+-- and their transaction sets under their places from 1, the first arrivals and their postings.
+pub record HasTablesOf (version next : ℕ) (db : Database) (s : Stored) : Type 0 where
   pub schema : db.schema ≡ station_schema
-  pub numbers : HoldsNumbersRow (numbers_kept_of s) (db.trees 0)
+  pub numbers : HoldsNumbersRow version (numbers_kept_of s) (db.trees 0)
   pub agreements : HoldsAgreements next s.agreements (db.trees 1)
   pub submitted : HoldsSubmissions s.submitted (db.trees 3)
   pub sets : AreRows row_of_set (enumerate_from 1 s.sets) (db.trees 4)
   pub wide : AllByRecursion IsWideSet s.sets
   pub arrived : HoldsArrivals s.arrived (db.trees 6)
   pub postings : HoldsPostings s.postings (db.trees 8)
+
+-- the same, of the newest version
+abbrev pub HasTables : ℕ → Database → Stored → Type 0
+HasTables = HasTablesOf newest_version

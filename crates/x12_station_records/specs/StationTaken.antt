@@ -1,5 +1,5 @@
 -- Which rows of a station's tables are taken over, and what a station left.
-use Rattle.std.specs.Prelude.{◌≡◌, ◌≢◌, ◌⊎◌, ◌<◌, ◌≤◌, ◌+◌, ◌^◌, ℕ, zero, suc, pos, false, List, [], ◌∷◌, map, take, drop, length}
+use Rattle.std.specs.Prelude.{◌≡◌, ◌≢◌, ◌⊎◌, ◌<◌, ◌≤◌, ◌+◌, ◌^◌, ℕ, zero, suc, pos, false, IsTrue, List, [], ◌∷◌, map, take, drop, length}
 use Rattle.std.specs.List.{AllByRecursion}
 use Rattle.sqlite.specs.declared.types.Value.{Value}
 use Rattle.sqlite.specs.declared.types.Value.TheVariants.{Null, Int}
@@ -11,18 +11,18 @@ use Rattle.sqlite_disk.specs.Disk.{MoreFaults}
 use Rattle.x12_envelopes.specs.declared.party.Party.{Party}
 use Rattle.x12_numbers.specs.Book.{Numbers}
 use Rattle.x12_numbers.specs.declared.book.TheConstants.{MAX_CONTROL_NUMBER}
-use Rattle.x12_station.specs.Stored.{Origin, IsSound}
+use Rattle.x12_station.specs.Stored.{IsSound}
 use Rattle.x12_tables.specs.Adopt.{IsLong, IsAtRest}
-use Rattle.x12_tables.specs.OneRow.{IsOfVersion}
+use Rattle.x12_tables.specs.OneRow.{IsOfVersions}
 use Rattle.x12_tables.specs.Party.{IsParty, bytes_in}
 use Rattle.x12_tables.specs.declared.fault.RecordsFault.{RecordsFault}
 use Rattle.x12_tables.specs.declared.fault.RecordsFault.TheVariants.{Memory, OldVersion, OtherParty}
-use Rattle.x12_station_records.specs.StationAdopt.{IsLenient, IsSetNumber, IsFate, IsNumber, AreOfOne, set_read, AreOfAll}
+use Rattle.x12_station_records.specs.StationAdopt.{IsLenient, IsOriginOf, IsSetNumber, IsFate, IsNumber, AreOfOne, set_read, AreOfAll}
 use Rattle.x12_station_records.specs.StationAgreed.{AreKept, pair_shown}
 use Rattle.x12_station_records.specs.StationContent.{agreements_of, content_of}
 use Rattle.x12_station_records.specs.StationGroups.{StandBehind, no_set, set_shown}
-use Rattle.x12_station_records.specs.StationNumbers.{numbers_kept_of, KeptNumbers}
-use Rattle.x12_station_records.specs.StationPlan.{HoldsRows}
+use Rattle.x12_station_records.specs.StationNumbers.{AreMarked, KeptNumbers, newest_version, numbers_kept_of}
+use Rattle.x12_station_records.specs.StationPlan.{HoldsRowsOf}
 use Rattle.x12_station_records.specs.StationSchema.{station_schema}
 use Rattle.x12_station_records.specs.declared.station_committing.NextRows.{NextRows}
 
@@ -46,9 +46,9 @@ pub record IsNumbersRow (r : Row) : Type 0 where
   pub seq : (n : ℕ) × (column r 7 ≡ Int (pos n)) × (n < 2 ^ 63)
   pub handed : IsLong (column r 8)
 
--- there is one such row, of version 2
-abbrev pub IsOneNumbersRow : List Row → Type 0
-IsOneNumbersRow rows = IsOfVersion 2 rows × AllByRecursion IsNumbersRow rows
+-- there is one such row, of a version from this one to the newest
+abbrev pub IsOneNumbersRow : ℕ → List Row → Type 0
+IsOneNumbersRow oldest rows = IsOfVersions oldest newest_version rows × AllByRecursion IsNumbersRow rows
 
 -- a row of a partner, GS01, ST01 and whether the agreement is lenient has values of their widths
 pub record HasPair (r : Row) : Type 0 where
@@ -118,15 +118,23 @@ AreInTurn (suc left) next sent arrived =
     ⊎ ((rest : List ℕ) × (arrived ≡ next ∷ rest) × ((more : List ℕ) → sent ≢ next ∷ more)
     × AreInTurn left (next + 1) sent rest)
 
--- the tables hold sound records of a station
+-- the tables, of some version, hold sound records of a station, whose marks are in their order
 pub record HoldsStation (db : Database) : Type 0 where
+  pub version : ℕ
   pub next : NextRows
-  pub holds : HoldsRows next db (content_of db.trees)
+  pub holds : HoldsRowsOf version next db (content_of db.trees)
   pub sound : IsSound (content_of db.trees)
+  pub marked : AreMarked (numbers_kept_of (content_of db.trees))
 
--- the same, of this origin
-abbrev pub HoldsStationOf : Origin → Database → Type 0
-HoldsStationOf o db = HoldsStation db × ((content_of db.trees).origin ≡ o)
+-- the same, of a version from this one to the newest
+abbrev pub HoldsStationFrom : ℕ → Database → Type 0
+HoldsStationFrom oldest db =
+    (h : HoldsStation db) × (oldest ≤ h.version) × (h.version ≤ newest_version)
+
+-- the same, of this party at these hubs
+abbrev pub HoldsStationOf : ℕ → Party → List Party → Database → Type 0
+HoldsStationOf oldest party hubs db =
+    HoldsStationFrom oldest db × IsOriginOf party hubs (content_of db.trees).origin
 
 -- the same, with these numbers
 abbrev pub HoldsStationBy : KeptNumbers → Database → Type 0
@@ -150,37 +158,46 @@ HoldsInTurn last seqs db = HoldsStation db × ((content_of db.trees).seq ≡ las
 abbrev pub HoldsHanded : ℕ → Database → Type 0
 HoldsHanded handed db = HoldsStation db × ((content_of db.trees).handed ≡ handed)
 
--- The tables are a station's, of an older version: their one row says a number from 1 below 2.
-pub record HoldsOlder (db : Database) : Type 0 where
+-- The tables are a station's, of an older version than this: their one row says a number from 1 that is
+-- below it.
+pub record HoldsOlder (oldest : ℕ) (db : Database) : Type 0 where
   pub schema : db.schema ≡ station_schema
   pub row : Row
   pub one : db.trees 0 ≡ row ∷ []
   pub version : ℕ
   pub version_is : column row 2 ≡ Int (pos version)
-  pub older : (0 < version) × (version < 2)
+  pub older : (0 < version) × (version < oldest)
 
 -- such tables were left in a database that is open, in no transaction, and without a limit of steps
-pub record WereLeftOlder (s : State) : Type 0 where
+pub record WereLeftOlder (oldest : ℕ) (s : State) : Type 0 where
   pub ready : IsAtRest s
   pub outside : s.in_transaction ≡ false
-  pub holds : HoldsOlder s.now
+  pub holds : HoldsOlder oldest s.now
 
--- a station left sound records of this origin in a database that is open, in no transaction, and
--- without a limit of steps
-pub record WereLeftByStation (o : Origin) (s : State) : Type 0 where
+-- no transaction is open, and what is seen is committed
+pub record IsOutside (s : State) : Type 0 where
+  pub outside : s.in_transaction ≡ false
+  pub settled : IsTrue s.is_open → s.now ≡ s.committed
+
+-- a station left sound records of this party at these hubs, of a version from this one to the newest, in a
+-- database that is open, in no transaction, and without a limit of steps
+pub record WereLeftByStation (oldest : ℕ) (party : Party) (hubs : List Party) (s : State) : Type 0 where
   pub ready : IsAtRest s
   pub outside : s.in_transaction ≡ false
-  pub holds : HoldsStationOf o s.now
+  pub holds : HoldsStationOf oldest party hubs s.now
 
 -- What a refusal to take records over tells is so: they are another's, or of an older version.
-pub record TellsRightly (o : Origin) (db : Database) (fault : RecordsFault) : Type 0 where
+pub record TellsRightly (oldest : ℕ) (party : Party) (hubs : List Party) (db : Database)
+    (fault : RecordsFault) : Type 0 where
   pub other : (found wanted : Party) → fault ≡ OtherParty found wanted
-      → (content_of db.trees).origin ≢ o
-  pub older : fault ≡ OldVersion → HoldsOlder db
+      → IsOriginOf party hubs (content_of db.trees).origin → ⊥
+  pub older : fault ≡ OldVersion → HoldsOlder oldest db
 
 -- Why what was left is refused: memory was missing, or the device failed in the call. Of an older
 -- version that is told first, wherever it was read.
-pub record RefusesLeft (o : Origin) (fault : RecordsFault) (old new : State) : Type 0 where
-  pub own : WereLeftByStation o old → (fault ≡ Memory) ⊎ MoreFaults old.faults new.faults
-  pub older : WereLeftOlder old
+pub record RefusesLeft (oldest : ℕ) (party : Party) (hubs : List Party) (fault : RecordsFault)
+    (old new : State) : Type 0 where
+  pub own : WereLeftByStation oldest party hubs old
+      → (fault ≡ Memory) ⊎ MoreFaults old.faults new.faults
+  pub older : WereLeftOlder oldest old
       → (fault ≡ OldVersion) ⊎ (fault ≡ Memory) ⊎ MoreFaults old.faults new.faults

@@ -9,6 +9,7 @@ mod station_creating;
 mod station_groups;
 mod station_inbound;
 mod station_loading;
+mod station_migrating;
 mod station_numbers;
 mod station_outbound;
 mod station_outset;
@@ -18,4 +19,5 @@ mod station_records;
 mod telling;
 mod values;
 
+pub use station_numbers::STATION_VERSION;
 pub use station_records::SqliteRecords;

@@ -1,11 +1,10 @@
 //! A station's records in a database that holds their tables.
 
-ghost use Rattle.std.specs.Prelude.{◌≡◌, ◌≢◌, [], Err, IfOk, map, IfErr, IsErr};
+ghost use Rattle.std.specs.Prelude.{◌≡◌, ◌≢◌, [], Err, IfOk, map, IfErr, IsErr, OnOk};
 ghost use Rattle.sqlite.specs.Held.{state};
 ghost use Rattle.sqlite.specs.State.{HasCleanDisk, Shown};
 ghost use Rattle.sql_rows.specs.Query.{IsQuery};
 ghost use Rattle.x12_outbound.specs.Hubs.{hubs_of};
-ghost use Rattle.x12_station.specs.Stored.{origin_of};
 ghost use Rattle.x12_tables.specs.Adopt.{Finds, ObeysSchema, Takes, RefusesOlder};
 ghost use Rattle.x12_tables.specs.Fault.{RefusesOthers, TellsFailure, fault_of_rows};
 ghost use Rattle.x12_tables.specs.declared.fault.RecordsFault.{RecordsFault};
@@ -13,14 +12,14 @@ ghost use Rattle.x12_tables.specs.declared.fault.TableFault.{TableFault};
 ghost use Rattle.x12_station_records.specs.StationAdopt.{FindsNumbers, FindsOwn, FindsAgreed};
 ghost use Rattle.x12_station_records.specs.StationAdopt.{FindsSubmitted, FindsSets, FindsSent};
 ghost use Rattle.x12_station_records.specs.StationAdopt.{FindsArrived, FindsOrder, FindsPostings};
-ghost use Rattle.x12_station_records.specs.StationAdopt.{FindsHanded, FindsRows, FindsRecords};
-ghost use Rattle.x12_station_records.specs.StationContent.{content_of, IsValid};
+ghost use Rattle.x12_station_records.specs.StationAdopt.{FindsHanded, FindsRows, FindsRecords, IsOriginOf};
+ghost use Rattle.x12_station_records.specs.StationContent.{content_of};
 ghost use Rattle.x12_station_records.specs.StationNumbers.{numbers_view};
 ghost use Rattle.x12_station_records.specs.StationSchema.{station_schema};
-ghost use Rattle.x12_station_records.specs.StationTaken.{HoldsStation, HoldsStationOf};
+ghost use Rattle.x12_station_records.specs.StationTaken.{HoldsStation, HoldsStationOf, HoldsStationFrom};
 ghost use Rattle.x12_station_records.specs.StationTaken.{HoldsStationBy, HoldsBooked};
 ghost use Rattle.x12_station_records.specs.StationTaken.{HoldsSubmitted, HoldsInTurn, HoldsHanded};
-ghost use Rattle.x12_station_records.specs.StationTaken.{HoldsOlder, WereLeftOlder, RefusesLeft};
+ghost use Rattle.x12_station_records.specs.StationTaken.{HoldsOlder, IsOutside, WereLeftOlder, RefusesLeft};
 
 use crate::schema::is_station_schema;
 use crate::station_agreements::next_pair;
@@ -29,7 +28,7 @@ use crate::station_groups::next_set_of;
 use crate::station_inbound::{arrivals_in_rows, test_order};
 use crate::station_numbers::{NUMBERS, NumbersRow, numbers_in_rows};
 use crate::station_outbound::submissions_in_rows;
-use crate::station_owner::test_owner;
+use crate::station_owner::{test_marks, test_owner};
 use crate::station_postings::next_posting;
 use sql_rows::ask;
 use sqlite::{Alter, Connection, Row};
@@ -59,16 +58,17 @@ fn look<S: Alter>(conn: &mut Connection<S>, sql: &str) -> Result<Vec<Row>, Table
     }
 }
 
-/// What the row of numbers says.
-fn find_numbers<S: Alter>(conn: &mut Connection<S>) -> Result<NumbersRow, TableFault>
-    ensures finds { Finds FindsNumbers result (state S.Store conn.old) (state S.Store conn.new) }
-    ensures taken { Takes HoldsStation TableFault.Memory result
+/// What the row of numbers says, of a version from this one to the newest.
+fn find_numbers<S: Alter>(conn: &mut Connection<S>, oldest: u32) -> Result<NumbersRow, TableFault>
+    ensures finds { Finds (FindsNumbers oldest) result
         (state S.Store conn.old) (state S.Store conn.new) }
-    ensures older { RefusesOlder HoldsOlder TableFault.OldVersion TableFault.Memory result
+    ensures taken { Takes (HoldsStationFrom oldest) TableFault.Memory result
+        (state S.Store conn.old) (state S.Store conn.new) }
+    ensures older { RefusesOlder (HoldsOlder oldest) TableFault.OldVersion TableFault.Memory result
         (state S.Store conn.old) (state S.Store conn.new) }
 {
     let rows = look(conn, NUMBERS)?;
-    numbers_in_rows(&rows)
+    numbers_in_rows(&rows, oldest)
 }
 
 /// The number of the next pair of an agreement.
@@ -210,18 +210,20 @@ fn find_own<S: Alter>(
     conn: &mut Connection<S>,
     party: &Party,
     hubs: &Hubs,
+    oldest: u32,
 ) -> Result<NumbersRow, RecordsFault>
-    ensures finds { Finds (FindsOwn party.now (hubs_of hubs.now)) result
+    ensures finds { Finds (FindsOwn oldest party.now (hubs_of hubs.now)) result
         (state S.Store conn.old) (state S.Store conn.new) }
-    ensures other { RefusesOthers ((content_of (state S.Store conn.old).now.trees).origin
-        ≡ origin_of party.now (hubs_of hubs.now)) result (state S.Store conn.new) }
-    ensures taken { Takes (HoldsStationOf (origin_of party.now (hubs_of hubs.now))) RecordsFault.Memory result
+    ensures other { RefusesOthers (IsOriginOf party.now (hubs_of hubs.now)
+        (content_of (state S.Store conn.old).now.trees).origin) result (state S.Store conn.new) }
+    ensures taken { Takes (HoldsStationOf oldest party.now (hubs_of hubs.now)) RecordsFault.Memory result
         (state S.Store conn.old) (state S.Store conn.new) }
-    ensures older { RefusesOlder HoldsOlder RecordsFault.OldVersion RecordsFault.Memory result
+    ensures older { RefusesOlder (HoldsOlder oldest) RecordsFault.OldVersion RecordsFault.Memory result
         (state S.Store conn.old) (state S.Store conn.new) }
 {
-    let numbers = find_numbers(conn)?;
+    let numbers = find_numbers(conn, oldest)?;
     test_owner(&numbers.owner, party, hubs)?;
+    test_marks(&numbers)?;
     Ok(numbers)
 }
 
@@ -235,48 +237,51 @@ fn rows_fault(fault: TableFault) -> RecordsFault
     }
 }
 
-/// Tests all six tables; answers the numbers of the next rows.
+/// Tests all six tables; answers the numbers of the next rows, and what the row of numbers says.
 fn find_records<S: Alter>(
     conn: &mut Connection<S>,
     party: &Party,
     hubs: &Hubs,
-) -> Result<NextRows, RecordsFault>
-    ensures finds { Finds (FindsRecords (origin_of party.now (hubs_of hubs.now))) result
+    oldest: u32,
+) -> Result<(NextRows, NumbersRow), RecordsFault>
+    ensures finds { Finds (FindsRecords oldest party.now (hubs_of hubs.now)) result
         (state S.Store conn.old) (state S.Store conn.new) }
-    ensures other { RefusesOthers ((content_of (state S.Store conn.old).now.trees).origin
-        ≡ origin_of party.now (hubs_of hubs.now)) result (state S.Store conn.new) }
-    ensures taken { Takes (HoldsStationOf (origin_of party.now (hubs_of hubs.now))) RecordsFault.Memory result
+    ensures other { RefusesOthers (IsOriginOf party.now (hubs_of hubs.now)
+        (content_of (state S.Store conn.old).now.trees).origin) result (state S.Store conn.new) }
+    ensures taken { Takes (HoldsStationOf oldest party.now (hubs_of hubs.now)) RecordsFault.Memory result
         (state S.Store conn.old) (state S.Store conn.new) }
-    ensures older { RefusesOlder HoldsOlder RecordsFault.OldVersion RecordsFault.Memory result
+    ensures older { RefusesOlder (HoldsOlder oldest) RecordsFault.OldVersion RecordsFault.Memory result
         (state S.Store conn.old) (state S.Store conn.new) }
 {
-    let numbers = find_own(conn, party, hubs)?;
+    let numbers = find_own(conn, party, hubs, oldest)?;
     match find_rows(conn, &numbers) {
-        Ok(next) => Ok(next),
+        Ok(next) => Ok((next, numbers)),
         Err(fault) => Err(rows_fault(fault)),
     }
 }
 
-/// Finds the records of the station of this party at these hubs in a database with no open
-/// transaction; answers the numbers of the next rows. Nothing is written.
-pub(crate) fn adopt_station<S: Alter>(
+/// Finds the records of the station of this party at these hubs, of a version from this one to the
+/// newest, in a database with no open transaction; answers the numbers of the next rows, and what the row
+/// of numbers says. Nothing is written.
+pub(crate) fn test_all<S: Alter>(
     conn: &mut Connection<S>,
     party: &Party,
     hubs: &Hubs,
-) -> Result<NextRows, RecordsFault>
-    ensures valid { IfOk result (λ next. IsValid next (state S.Store conn.new)) }
-    ensures finds { Finds (FindsRecords (origin_of party.now (hubs_of hubs.now))) result
+    oldest: u32,
+) -> Result<(NextRows, NumbersRow), RecordsFault>
+    ensures outside { OnOk result (IsOutside (state S.Store conn.old)) }
+    ensures finds { Finds (FindsRecords oldest party.now (hubs_of hubs.now)) result
         (state S.Store conn.old) (state S.Store conn.new) }
-    ensures other { RefusesOthers ((content_of (state S.Store conn.old).now.trees).origin
-        ≡ origin_of party.now (hubs_of hubs.now)) result (state S.Store conn.new) }
+    ensures other { RefusesOthers (IsOriginOf party.now (hubs_of hubs.now)
+        (content_of (state S.Store conn.old).now.trees).origin) result (state S.Store conn.new) }
     ensures others { conn.old.schema ≢ station_schema → result ≡ Err RecordsFault.NotOurs }
     ensures taken { HasCleanDisk (state S.Store conn.new) →
-        IfErr result (λ e. RefusesLeft (origin_of party.now (hubs_of hubs.now)) e
+        IfErr result (λ e. RefusesLeft oldest party.now (hubs_of hubs.now) e
         (state S.Store conn.old) (state S.Store conn.new)) }
     ensures older { HasCleanDisk (state S.Store conn.new) →
-        WereLeftOlder (state S.Store conn.old) → IsErr result }
+        WereLeftOlder oldest (state S.Store conn.old) → IsErr result }
     ensures only { HasCleanDisk (state S.Store conn.new) →
-        result ≡ Err RecordsFault.OldVersion → HoldsOlder (state S.Store conn.old).now }
+        result ≡ Err RecordsFault.OldVersion → HoldsOlder oldest (state S.Store conn.old).now }
 {
     if !is_station_schema(conn.schema()) {
         return Err(RecordsFault::NotOurs);
@@ -284,5 +289,5 @@ pub(crate) fn adopt_station<S: Alter>(
     if !conn.is_autocommit() {
         return Err(RecordsFault::Store);
     }
-    find_records(conn, party, hubs)
+    find_records(conn, party, hubs, oldest)
 }

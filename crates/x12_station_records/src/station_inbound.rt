@@ -13,6 +13,8 @@ ghost use Rattle.x12_outbound.specs.Settling.{target_view};
 ghost use Rattle.x12_station.specs.Stored.{filed_in};
 ghost use Rattle.x12_station.specs.Durable.{item_at, item_of_arrival};
 ghost use Rattle.x12_station.specs.Record.{history_item};
+ghost use Rattle.x12_profile.specs.Edition.{Marks};
+ghost use Rattle.x12_station.specs.Stored.{marks_of};
 ghost use Rattle.x12_tables.specs.Adopt.{TakesRows};
 ghost use Rattle.x12_tables.specs.declared.fault.TableFault.TheVariants.{Memory};
 ghost use Rattle.x12_station_records.specs.StationAdopt.{IsArrivalRow, AreArrivals};
@@ -134,8 +136,8 @@ pub(crate) fn find_inbound<S: Alter>(
 
 /// What is filed, as an item of the history.
 fn item_of(filed: Option<Filed>) -> Option<Item>
-    ensures { (seq : ℕ) → option_map (history_item seq) result
-        ≡ option_map (item_kept seq) (option_map kept_in filed) }
+    ensures { (marks : Marks) (seq : ℕ) → option_map (history_item marks seq) result
+        ≡ option_map (item_kept marks seq) (option_map kept_in filed) }
 {
     match filed {
         Some(filed) => Some(Item::Came(filed)),
@@ -145,8 +147,9 @@ fn item_of(filed: Option<Filed>) -> Option<Item>
 
 /// The first arrival of this number among submissions and first arrivals.
 fn find_arrived<S: Alter>(conn: &mut Connection<S>, seq: u64) -> Result<Option<Item>, Error>
-    ensures { StationAnswers (λ s o. option_map (history_item seq) o ≡ option_map
-        (item_of_arrival seq) (arrival_numbered s seq)) result (state S.Store conn.old) (state S.Store conn.new) }
+    ensures { StationAnswers (λ s o. option_map (history_item (marks_of s.origin) seq) o ≡ option_map
+        (item_of_arrival (marks_of s.origin) seq) (arrival_numbered s seq)) result
+        (state S.Store conn.old) (state S.Store conn.new) }
 {
     let rows = read(
         conn,
@@ -158,7 +161,8 @@ fn find_arrived<S: Alter>(conn: &mut Connection<S>, seq: u64) -> Result<Option<I
 
 /// The submission or first arrival of this number, from 1.
 pub(crate) fn find_item<S: Alter>(conn: &mut Connection<S>, seq: u64) -> Result<Option<Item>, Error>
-    ensures { StationAnswers (λ s o. option_map (history_item seq) o ≡ item_at s seq) result
+    ensures { StationAnswers (λ s o.
+        option_map (history_item (marks_of s.origin) seq) o ≡ item_at s seq) result
         (state S.Store conn.old) (state S.Store conn.new) }
 {
     let submitted = find_submitted(conn, seq)?;

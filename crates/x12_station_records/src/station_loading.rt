@@ -35,6 +35,7 @@ pub(crate) fn load<S: Alter>(conn: &mut Connection<S>) -> Result<Loaded, Error>
     let agreements = load_agreements(conn)?;
     let entries = load_open(conn, numbers.book)?;
     Ok(Loaded {
+        marks: numbers.owner.marks(),
         book: numbers.book,
         seq: numbers.seq,
         agreements,

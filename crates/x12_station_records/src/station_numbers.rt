@@ -1,26 +1,28 @@
 //! The row of a station's numbers.
 
-ghost use Rattle.std.specs.Prelude.{◌≡◌, ◌≤◌, ◌-◌, ◌^◌, pos, Err, IfOk, IsErrAnd};
+ghost use Rattle.std.specs.Prelude.{◌≡◌, ◌≢◌, ◌≤◌, ◌-◌, ◌^◌, pos, Err, IfOk, IsErrAnd};
 ghost use Rattle.sqlite.specs.Held.{state};
 ghost use Rattle.sqlite.specs.Order.{column};
 ghost use Rattle.sqlite.specs.declared.error.Error.TheVariants.{SqliteFailure};
 ghost use Rattle.sqlite.specs.declared.error.ErrorCode.TheVariants.{OutOfMemory};
 ghost use Rattle.sqlite.specs.declared.types.Value.TheVariants.{Int, Blob};
 ghost use Rattle.sql_rows.specs.Kept.{IsPart};
+ghost use Rattle.sql_rows.specs.Keyed.{with_id};
 ghost use Rattle.x12_station.specs.Record.{owner_view};
 ghost use Rattle.x12_tables.specs.Adopt.{TakesRows};
 ghost use Rattle.x12_tables.specs.Change.{Always};
 ghost use Rattle.x12_tables.specs.Fault.{IsOldVersion};
-ghost use Rattle.x12_tables.specs.OneRow.{IsOfOlder};
+ghost use Rattle.x12_tables.specs.OneRow.{AreColumns, IsOfOlder, whole};
 ghost use Rattle.x12_tables.specs.Party.{bytes_of_party};
 ghost use Rattle.x12_tables.specs.declared.fault.TableFault.TheVariants.{Memory, OldVersion};
 ghost use Rattle.x12_station_records.specs.StationAdopt.{AreLastNumbers};
 ghost use Rattle.x12_station_records.specs.StationChange.{Turns, with_last_numbers};
-ghost use Rattle.x12_station_records.specs.StationNumbers.{numbers_kept_of, numbers_view};
+ghost use Rattle.x12_station_records.specs.StationNumbers.{newest_version, numbers_kept_of, numbers_view};
 ghost use Rattle.x12_station_records.specs.StationRead.{StationAnswers};
 ghost use Rattle.x12_station_records.specs.StationTables.{AreWideParties, CanBeUsed, other_value};
+ghost use Rattle.x12_station_records.specs.StationTables.{numbers_row};
 ghost use Rattle.x12_station_records.specs.StationTaken.{TellsOwner, IsControlNumber};
-ghost use Rattle.x12_station_records.specs.StationTaken.{IsOneNumbersRow};
+ghost use Rattle.x12_station_records.specs.StationTaken.{IsOneNumbersRow, IsNumbersRow};
 
 use crate::values::other_in_row;
 use sql_rows::run;
@@ -28,20 +30,25 @@ use sqlite::types::ValueRef;
 use sqlite::{Alter, Connection, Error, Row, Transaction};
 use x12_numbers::Book;
 use x12_station::Owner;
-use x12_tables::{TableFault, integer, long_in, number_in, one_row, party_in_row, read};
+use x12_tables::{TableFault, integer, long_in, number_in, party_in_row, read, row_of_versions};
 
-/// What the row says: whose the records are, the last control numbers, the last number of a submission
-/// or first arrival, and how many postings were handed over.
+/// What the row says: the version of the tables, whose the records are, with the row's own marks, the last
+/// control numbers, the last number of a submission or first arrival, and how many postings were handed
+/// over.
 #[derive(Clone, Copy)]
 pub(crate) struct NumbersRow {
+    pub(crate) version: u32,
     pub(crate) owner: Owner,
     pub(crate) book: Book,
     pub(crate) seq: u64,
     pub(crate) handed: u64,
 }
 
-/// The version of a station's tables.
-const VERSION: u32 = 2;
+/// The newest version of a station's tables.
+pub const STATION_VERSION: u32 = 2;
+
+/// The oldest version that is known, in which each arrival is read as before acknowledgments were noted.
+pub(crate) const FIRST_VERSION: u32 = 1;
 
 /// All columns of the row.
 pub(crate) const NUMBERS: &str =
@@ -109,21 +116,24 @@ fn book_in_row(row: &Row) -> Result<Book, Error>
     }
 }
 
-/// What the one row says; [`TableFault::OldVersion`] where it is one of an older version, whatever else
-/// is in it.
-pub(crate) fn numbers_in_rows(rows: &[Row]) -> Result<NumbersRow, TableFault>
-    ensures are { IfOk result (λ n. AreLastNumbers n rows.now) }
-    ensures taken { TakesRows (IsOneNumbersRow rows.now) Memory result }
-    ensures older { IsOfOlder 2 rows.now → IsErrAnd result IsOldVersion }
-    ensures only { result ≡ Err OldVersion → IsOfOlder 2 rows.now }
+/// What a row of all columns says, which is of this version.
+fn numbers_in_row(row: &Row, version: u32) -> Result<NumbersRow, TableFault>
+    requires { (column row.now 0 ≡ Int (pos 1)) × (column row.now 1 ≡ Int (pos version)) }
+    ensures row { IfOk result (λ n. AreColumns row.now 0 (whole (with_id numbers_row (1, n)))) }
+    ensures version { IfOk result (λ n. n.version ≡ version) }
+    ensures few { IfOk result (λ n. n.seq ≤ 2 ^ 63 - 1) }
+    ensures parties { IfOk result (λ n. AreWideParties n.owner) }
+    ensures book { IfOk result (λ n. CanBeUsed n.book) }
+    ensures taken { TakesRows (IsNumbersRow row.now) Memory result }
+    ensures known { result ≢ Err OldVersion }
 {
-    let row = one_row(rows, VERSION)?;
     let owner = owner_in_row(row)?;
     let book = book_in_row(row)?;
     let seq = long_in(row, 7)?;
     let handed = long_in(row, 8)?;
     integer(seq)?;
     Ok(NumbersRow {
+        version,
         owner,
         book,
         seq,
@@ -131,14 +141,47 @@ pub(crate) fn numbers_in_rows(rows: &[Row]) -> Result<NumbersRow, TableFault>
     })
 }
 
-/// What the row says. Numbers out of range are a failure of the device.
+/// What the one row says, of a version from this one to the newest; [`TableFault::OldVersion`] where it
+/// is of an older one, whatever else is in it.
+pub(crate) fn numbers_in_rows(rows: &[Row], oldest: u32) -> Result<NumbersRow, TableFault>
+    ensures are { IfOk result (λ n. AreLastNumbers oldest n rows.now) }
+    ensures taken { TakesRows (IsOneNumbersRow oldest rows.now) Memory result }
+    ensures older { IsOfOlder oldest rows.now → IsErrAnd result IsOldVersion }
+    ensures only { result ≡ Err OldVersion → IsOfOlder oldest rows.now }
+{
+    let (version, row) = row_of_versions(rows, oldest, STATION_VERSION)?;
+    numbers_in_row(row, version)
+}
+
+/// Up to which number arrivals are read as before acknowledgments were noted.
+pub(crate) fn noted_in(numbers: &NumbersRow) -> u64
+    ensures { result ≡ (numbers_view numbers.now).origin.noted }
+{
+    if numbers.version == 1 {
+        return numbers.seq;
+    }
+    numbers.owner.noted
+}
+
+/// Up to which number arrivals are read as before the edition changed.
+pub(crate) fn era_in(numbers: &NumbersRow) -> u64
+    ensures { result ≡ (numbers_view numbers.now).origin.era }
+{
+    if numbers.version == 1 {
+        return numbers.seq;
+    }
+    numbers.owner.era
+}
+
+/// What the row of tables of the newest version says. Numbers out of range are a failure of the device.
 pub(crate) fn load_numbers<S: Alter>(conn: &mut Connection<S>) -> Result<NumbersRow, Error>
     ensures answers { StationAnswers (λ s n. numbers_view n ≡ numbers_kept_of s) result
         (state S.Store conn.old) (state S.Store conn.new) }
+    ensures newest { IfOk result (λ n. n.version ≡ newest_version) }
     ensures few { IfOk result (λ n. n.seq ≤ 2 ^ 63 - 1) }
 {
     let rows = read(conn, NUMBERS, &[])?;
-    Ok(numbers_in_rows(&rows)?)
+    Ok(numbers_in_rows(&rows, STATION_VERSION)?)
 }
 
 /// Whose the records are.

@@ -3,10 +3,12 @@
 ghost use Rattle.std.specs.Prelude.{◌≡◌, ◌≢◌, Err, OnOk, OnErr, unwrap_or};
 ghost use Rattle.x12_outbound.specs.Hubs.{hubs_of};
 ghost use Rattle.x12_station.specs.Record.{owner_view};
-ghost use Rattle.x12_station.specs.Stored.{origin_of};
 ghost use Rattle.x12_tables.specs.declared.fault.RecordsFault.{RecordsFault};
 ghost use Rattle.x12_tables.specs.declared.fault.RecordsFault.TheVariants.{OtherParty};
+ghost use Rattle.x12_station_records.specs.StationAdopt.{IsOriginOf};
+ghost use Rattle.x12_station_records.specs.StationNumbers.{AreMarked, numbers_view};
 
+use crate::station_numbers::{NumbersRow, era_in, noted_in};
 use x12_envelopes::Party;
 use x12_outbound::Hubs;
 use x12_station::Owner;
@@ -38,31 +40,31 @@ fn test_other(owner: &Owner, wanted: &Option<Party>) -> Result<(), RecordsFault>
     }
 }
 
-/// Tests that the records read each arrival alike.
-fn test_alike(owner: &Owner) -> Result<(), RecordsFault>
-    ensures alike { OnOk result ((owner.now.noted ≡ 0) × (owner.now.era ≡ 0)) }
-    ensures other { OnErr result (owner.now.noted ≡ 0 → owner.now.era ≢ 0) }
-    ensures fault { OnErr result (result ≡ Err RecordsFault.Store) }
-{
-    if owner.noted != 0 {
-        return Err(RecordsFault::Store);
-    }
-    if owner.era != 0 {
-        return Err(RecordsFault::Store);
-    }
-    Ok(())
-}
-
-/// Tests that these are the records of the station of this party at these hubs, in which each
-/// arrival is read alike.
+/// Tests that these are the records of the station of this party at these hubs.
 pub(crate) fn test_owner(owner: &Owner, party: &Party, hubs: &Hubs) -> Result<(), RecordsFault>
-    ensures own { OnOk result (owner_view owner.now ≡ origin_of party.now (hubs_of hubs.now)) }
+    ensures own { OnOk result (IsOriginOf party.now (hubs_of hubs.now) (owner_view owner.now)) }
     ensures other { OnErr result
-        (owner_view owner.now ≢ origin_of party.now (hubs_of hubs.now)) }
+        (IsOriginOf party.now (hubs_of hubs.now) (owner_view owner.now) → ⊥) }
     ensures known { result ≢ Err RecordsFault.OldVersion }
 {
     test_party(&owner.party, party)?;
     test_party(&owner.hub, &hubs.hub)?;
-    test_other(owner, &hubs.other)?;
-    test_alike(owner)
+    test_other(owner, &hubs.other)
+}
+
+/// Tests that what is read as before acknowledgments were noted is read as before the edition changed, and
+/// that no number to come is.
+pub(crate) fn test_marks(numbers: &NumbersRow) -> Result<(), RecordsFault>
+    ensures marked { OnOk result (AreMarked (numbers_view numbers.now)) }
+    ensures unmarked { OnErr result (AreMarked (numbers_view numbers.now) → ⊥) }
+    ensures fault { OnErr result (result ≡ Err RecordsFault.Store) }
+{
+    let era = era_in(numbers);
+    if noted_in(numbers) > era {
+        return Err(RecordsFault::Store);
+    }
+    if era > numbers.seq {
+        return Err(RecordsFault::Store);
+    }
+    Ok(())
 }

@@ -6,23 +6,26 @@ ghost use Rattle.sqlite.specs.Held.{state};
 ghost use Rattle.sqlite.specs.State.{HasCleanDisk, Survives};
 ghost use Rattle.sql_rows.specs.Kept.{Stays, MayBecome};
 ghost use Rattle.x12_envelopes.specs.declared.party.Party.{Party};
-ghost use Rattle.x12_station.specs.Stored.{origin_of};
 ghost use Rattle.x12_tables.specs.Adopt.{IsAtRest};
 ghost use Rattle.x12_tables.specs.Schema.{no_schema};
 ghost use Rattle.x12_tables.specs.declared.fault.RecordsFault.{RecordsFault};
 ghost use Rattle.x12_station_records.specs.StationAdopt.{AreFoundAtStation};
 ghost use Rattle.x12_station_records.specs.StationContent.{content_of, IsValid};
 ghost use Rattle.x12_station_records.specs.StationCreate.{NewRecords, new_records};
+ghost use Rattle.x12_station_records.specs.StationMigrate.{AreMigrated, Migrates};
+ghost use Rattle.x12_station_records.specs.StationMigrate.{RefusesToMigrate};
+ghost use Rattle.x12_station_records.specs.StationNumbers.{first_version, newest_version};
 ghost use Rattle.x12_station_records.specs.StationSchema.{station_schema};
 ghost use Rattle.x12_station_records.specs.StationTaken.{WereLeftByStation, WereLeftOlder};
 ghost use Rattle.x12_station_records.specs.StationTaken.{TellsRightly, RefusesLeft};
 
-use crate::station_adopting::adopt_station;
+use crate::station_adopting::test_all;
 use crate::station_committing::{NextRows, commit};
 use crate::station_creating::create_station;
 use crate::station_inbound::{find_inbound, find_item};
 use crate::station_loading::load;
-use crate::station_numbers::find_owner;
+use crate::station_migrating::migrate_station;
+use crate::station_numbers::{STATION_VERSION, find_owner};
 use crate::station_outbound::{find_closed, find_closed_group, find_outbound};
 use crate::station_outset::find_fate;
 use crate::station_postings::{find_posted, find_posting, postings};
@@ -110,14 +113,14 @@ impl<S: Alter> SqliteRecords<S> {
     ) -> Result<Self, (Connection<S>, RecordsFault)>
         ensures valid { IfOk result (λ r. IsValid r.next (state S.Store r.conn)) }
         ensures found { IfOk result (λ r. HasCleanDisk (state S.Store r.conn) →
-            AreFoundAtStation (origin_of party (hub ∷ option_to_list other))
+            AreFoundAtStation party (hub ∷ option_to_list other)
             (state S.Store conn) (state S.Store r.conn)) }
         ensures never_won_back { IfOk result (λ r. IsTrue (state S.Store r.conn).is_open →
             IsTrue (state S.Store conn).is_open) }
         ensures others { conn.schema ≢ station_schema →
             IsErrAnd result (λ e. e.1 ≡ RecordsFault.NotOurs) }
         ensures other { IfErr result (λ e. HasCleanDisk (state S.Store e.0) →
-            TellsRightly (origin_of party (hub ∷ option_to_list other))
+            TellsRightly newest_version party (hub ∷ option_to_list other)
             (state S.Store conn).now e.1) }
         ensures back { IfErr result (λ e. HasCleanDisk (state S.Store e.0) →
             Stays (state S.Store conn) (state S.Store e.0)) }
@@ -128,16 +131,68 @@ impl<S: Alter> SqliteRecords<S> {
         // want of memory or of the device, or as one of an older version.
         ensures taken { MatchResult result
             (λ r. (r.failed ≡ 0) × (HasCleanDisk (state S.Store r.conn) →
-            WereLeftOlder (state S.Store conn) → ⊥))
+            WereLeftOlder newest_version (state S.Store conn) → ⊥))
             (λ e. HasCleanDisk (state S.Store e.0) →
-            RefusesLeft (origin_of party (hub ∷ option_to_list other)) e.1
+            RefusesLeft newest_version party (hub ∷ option_to_list other) e.1
             (state S.Store conn) (state S.Store e.0)) }
     {
         let mut conn = conn;
         let failed = 0;
-        match adopt_station(&mut conn, &party, &Hubs { hub, other }) {
-            Ok(next) => Ok(SqliteRecords { conn, next, failed }),
+        match test_all(&mut conn, &party, &Hubs { hub, other }, STATION_VERSION) {
+            Ok((next, _)) => Ok(SqliteRecords { conn, next, failed }),
             Err(error) => Err((conn, error)),
+        }
+    }
+
+    /// Records that were made before, as `adopt` finds them, but of any version up to the newest: they are
+    /// brought to the newest one. Answers which version they were of: where that was the newest, nothing
+    /// is written.
+    ///
+    /// They stand for what they stood for. Version 1 says nothing of how arrivals are read: up to the last
+    /// number each was read as before acknowledgments were noted, and goes on to be.
+    ///
+    /// A refusal gives the connection back, and leaves the tables as they were: the faults are those of
+    /// `adopt`, but for `OldVersion`. A stop in the call leaves the tables as they were, or all of them of
+    /// the newest version.
+    pub fn migrate(
+        conn: Connection<S>,
+        party: Party,
+        hub: Party,
+        other: Option<Party>,
+    ) -> Result<(Self, u32), (Connection<S>, RecordsFault)>
+        ensures valid { IfOk result (λ x. IsValid x.0.next (state S.Store x.0.conn)
+            × (x.0.failed ≡ 0)) }
+        ensures migrated { IfOk result (λ x. HasCleanDisk (state S.Store x.0.conn) →
+            AreMigrated x.1 party (hub ∷ option_to_list other)
+            (state S.Store conn) (state S.Store x.0.conn)) }
+        ensures others { conn.schema ≢ station_schema →
+            IsErrAnd result (λ e. e.1 ≡ RecordsFault.NotOurs) }
+        ensures other { IfErr result (λ e. HasCleanDisk (state S.Store e.0) →
+            TellsRightly first_version party (hub ∷ option_to_list other)
+            (state S.Store conn).now e.1) }
+        ensures back { IfErr result (λ e. HasCleanDisk (state S.Store e.0) →
+            Stays (state S.Store conn) (state S.Store e.0)) }
+        ensures crash { MatchResult result
+            (λ x. Survives (state S.Store conn) (state S.Store x.0.conn)
+            (MayBecome Migrates (state S.Store conn)))
+            (λ e. Survives (state S.Store conn) (state S.Store e.0)
+            (MayBecome Migrates (state S.Store conn))) }
+        ensures taken { IfErr result (λ e. HasCleanDisk (state S.Store e.0) →
+            RefusesToMigrate party (hub ∷ option_to_list other) e.1
+            (state S.Store conn) (state S.Store e.0)) }
+    {
+        let mut conn = conn;
+        let unfailed = 0;
+        match migrate_station(&mut conn, &party, &Hubs { hub, other }) {
+            Ok((next, was)) => {
+                let records = SqliteRecords {
+                    conn,
+                    next,
+                    failed: unfailed,
+                };
+                Ok((records, was))
+            }
+            Err(why) => Err((conn, why)),
         }
     }
 
@@ -147,8 +202,9 @@ impl<S: Alter> SqliteRecords<S> {
         ensures same { result ≡ self.conn }
         ensures left { IsValid self.next (state S.Store self.conn) →
             IsAtRest (state S.Store self.conn) →
-            WereLeftByStation (content_of (state S.Store self.conn).now.trees).origin
-            (state S.Store result) }
+            WereLeftByStation newest_version
+            (content_of (state S.Store self.conn).now.trees).origin.me
+            (content_of (state S.Store self.conn).now.trees).origin.hubs (state S.Store result) }
     {
         self.conn
     }

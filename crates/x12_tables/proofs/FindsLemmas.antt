@@ -32,7 +32,7 @@ pub finds_tested : {A B E F : Type 0} (C : Database → A → Type 0) (D : Datab
 finds_tested C D x (Ok y) old new h told = record { found = λ clean. (told clean, (h.found clean).1); stays = h.stays; mode = h.mode; survives = h.survives }
 finds_tested C D x (Err e) old new h told = record { found = λ clean. tt; stays = h.stays; mode = h.mode; survives = h.survives }
 
-stays_then : (a b c : State) → Stays a b → Stays b c → Stays a c
+pub stays_then : (a b c : State) → Stays a b → Stays b c → Stays a c
 stays_then a b c h k = record {
   was_open = λ o. h.was_open (k.was_open o);
   committed = λ o. k.committed o ∙ h.committed (k.was_open o);

@@ -1,5 +1,5 @@
 -- A table of one row, and what a query on all its columns shows.
-use Rattle.std.specs.Prelude.{◌≡◌, ◌<◌, ◌+◌, ℕ, pos, List, [], ◌∷◌, drop}
+use Rattle.std.specs.Prelude.{◌≡◌, ◌<◌, ◌≤◌, ◌+◌, ℕ, pos, List, [], ◌∷◌, drop}
 use Rattle.sqlite.specs.declared.types.Value.TheVariants.{Int}
 use Rattle.sqlite.specs.Order.{Row, column}
 
@@ -17,11 +17,11 @@ abbrev pub IsOneRow : Row → List Row → Type 0
 IsOneRow vs (r ∷ []) = AreColumns r 0 vs
 IsOneRow vs _ = ⊥
 
--- there is one row, whose key is 1, and whose version is this one
-abbrev pub IsOfVersion : ℕ → List Row → Type 0
-IsOfVersion version (r ∷ []) =
-    (column r 0 ≡ Int (pos 1)) × (column r 1 ≡ Int (pos version))
-IsOfVersion version _ = ⊥
+-- there is one row, whose key is 1, and whose version is one from the first to the second
+abbrev pub IsOfVersions : ℕ → ℕ → List Row → Type 0
+IsOfVersions oldest newest (r ∷ []) = (column r 0 ≡ Int (pos 1))
+    × (n : ℕ) × (column r 1 ≡ Int (pos n)) × (oldest ≤ n) × (n ≤ newest)
+IsOfVersions oldest newest _ = ⊥
 
 -- there is one row, whose version is an older one than this: a number from 1 that is below it
 abbrev pub IsOfOlder : ℕ → List Row → Type 0

@@ -20,8 +20,9 @@ pub enum RecordsFault {
     /// their version is missing, or has the number of no version up to this one.
     #[error("the database has other tables than these records: name another one")]
     NotOurs,
-    /// Q4. The records are of version 1, which an earlier release wrote. Nothing is wrong with them.
-    #[error("the records are of version 1: take the release that made them")]
+    /// Q4. The records are of version 1, which an earlier release wrote. Nothing is wrong with them, and
+    /// `migrate` brings them to the newest version.
+    #[error("its records are of version 1: copy the folder, then run `van migrate DIR`")]
     OldVersion,
     /// Q2. The database did not do what it was asked, a transaction was open, or a row is out of the
     /// form or the order of its table.

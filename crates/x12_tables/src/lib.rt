@@ -14,4 +14,6 @@ pub use layout::{
 };
 pub use party::{party_bytes, party_in_row, party_of_bytes, test_party};
 pub use reading::{is_device, read};
-pub use values::{first_value, integer, long_in, misplaced, node_in, number_in, one_row};
+pub use values::{
+    first_value, integer, long_in, misplaced, node_in, number_in, one_row, row_of_versions,
+};

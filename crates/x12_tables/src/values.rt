@@ -1,6 +1,6 @@
 //! Values in rows.
 
-ghost use Rattle.std.specs.Prelude.{◌≡◌, ◌<◌, ◌^◌, pos, IfOk, [], ◌∷◌, OnOk, IsOk, Err, IsErrAnd};
+ghost use Rattle.std.specs.Prelude.{◌≡◌, ◌<◌, ◌≤◌, ◌^◌, pos, IfOk, [], ◌∷◌, OnOk, IsOk, Err, IsErrAnd};
 ghost use Rattle.sqlite.specs.Order.{column};
 ghost use Rattle.sqlite.specs.declared.error.Error.TheVariants.{SqliteFailure};
 ghost use Rattle.sqlite.specs.declared.error.ErrorCode.TheVariants.{OutOfMemory};
@@ -9,7 +9,7 @@ ghost use Rattle.sql_rows.specs.Keyed.{number_in};
 ghost use Rattle.x12_tables.specs.Adopt.{TakesRows, IsNarrow, IsLong, IsNodeNumber};
 ghost use Rattle.x12_tables.specs.Fault.{IsOldVersion};
 ghost use Rattle.x12_tables.specs.First.{IsInFirstRow};
-ghost use Rattle.x12_tables.specs.OneRow.{IsOfVersion, IsOfOlder};
+ghost use Rattle.x12_tables.specs.OneRow.{IsOfVersions, IsOfOlder};
 ghost use Rattle.x12_tables.specs.declared.fault.TableFault.TheVariants.{Memory, OldVersion};
 
 use crate::fault::TableFault;
@@ -63,39 +63,45 @@ pub fn first_value<T: FromSql>(rows: &[Row]) -> Result<Option<T>, Error>
     }
 }
 
-/// Tests the version in the second column, and then the key in the first.
-fn test_version(row: &Row, wanted: u32) -> Result<(), TableFault>
+/// Tests the version in the second column, which has to be one from the oldest to the newest, and then
+/// the key in the first; the version.
+fn test_version(row: &Row, oldest: u32, newest: u32) -> Result<u32, TableFault>
     ensures key { OnOk result (column row.now 0 ≡ Int (pos 1)) }
-    ensures version { OnOk result (column row.now 1 ≡ Int (pos wanted)) }
-    ensures taken { TakesRows (IsOfVersion wanted (row.now ∷ [])) Memory result }
-    ensures older { IsOfOlder wanted (row.now ∷ []) → IsErrAnd result IsOldVersion }
-    ensures only { result ≡ Err OldVersion → IsOfOlder wanted (row.now ∷ []) }
+    ensures version { IfOk result (λ n. column row.now 1 ≡ Int (pos n)) }
+    ensures within { IfOk result (λ n. (oldest ≤ n) × (n ≤ newest)) }
+    ensures taken { TakesRows (IsOfVersions oldest newest (row.now ∷ [])) Memory result }
+    ensures older { IsOfOlder oldest (row.now ∷ []) → IsErrAnd result IsOldVersion }
+    ensures only { result ≡ Err OldVersion → IsOfOlder oldest (row.now ∷ []) }
 {
     let version = number_in(row, 1)?;
-    if 0 < version && version < wanted {
+    if 0 < version && version < oldest {
         return Err(TableFault::OldVersion);
     }
-    if version != wanted {
+    if version < oldest {
+        return Err(TableFault::NotOurs);
+    }
+    if newest < version {
         return Err(TableFault::NotOurs);
     }
     let key = number_in(row, 0)?;
     if key != 1 {
         return Err(TableFault::Store);
     }
-    Ok(())
+    Ok(version)
 }
 
-/// The one row of a table that says its version, which is the wanted one. It is tested before all
-/// else: [`TableFault::OldVersion`] where it is an older one, from 1 on; [`TableFault::NotOurs`] where
-/// there is no row, or one of any other version; [`TableFault::Store`] where there are several rows,
-/// or the key isn't 1.
-pub fn one_row(rows: &[Row], wanted: u32) -> Result<&Row, TableFault>
-    ensures one { IfOk result (λ row. rows.now ≡ row.now ∷ []) }
-    ensures key { IfOk result (λ row. column row.now 0 ≡ Int (pos 1)) }
-    ensures version { IfOk result (λ row. column row.now 1 ≡ Int (pos wanted)) }
-    ensures taken { TakesRows (IsOfVersion wanted rows.now) Memory result }
-    ensures older { IsOfOlder wanted rows.now → IsErrAnd result IsOldVersion }
-    ensures only { result ≡ Err OldVersion → IsOfOlder wanted rows.now }
+/// The version and the one row of a table that says it, where that is one from the oldest to the newest.
+/// It is tested before all else: [`TableFault::OldVersion`] where it is older, from 1 on;
+/// [`TableFault::NotOurs`] where there is no row, or one of any other version; [`TableFault::Store`]
+/// where there are several rows, or the key isn't 1.
+pub fn row_of_versions(rows: &[Row], oldest: u32, newest: u32) -> Result<(u32, &Row), TableFault>
+    ensures one { IfOk result (λ x. rows.now ≡ x.1.now ∷ []) }
+    ensures key { IfOk result (λ x. column x.1.now 0 ≡ Int (pos 1)) }
+    ensures version { IfOk result (λ x. column x.1.now 1 ≡ Int (pos x.0)) }
+    ensures within { IfOk result (λ x. (oldest ≤ x.0) × (x.0 ≤ newest)) }
+    ensures taken { TakesRows (IsOfVersions oldest newest rows.now) Memory result }
+    ensures older { IsOfOlder oldest rows.now → IsErrAnd result IsOldVersion }
+    ensures only { result ≡ Err OldVersion → IsOfOlder oldest rows.now }
 {
     if rows.is_empty() {
         return Err(TableFault::NotOurs);
@@ -103,7 +109,19 @@ pub fn one_row(rows: &[Row], wanted: u32) -> Result<&Row, TableFault>
     let [row] = rows else {
         return Err(TableFault::Store);
     };
-    test_version(row, wanted)?;
+    let version = test_version(row, oldest, newest)?;
+    Ok((version, row))
+}
+
+/// The one row of a table that says its version, which is the wanted one; the faults are those of
+/// [`row_of_versions`].
+pub fn one_row(rows: &[Row], wanted: u32) -> Result<&Row, TableFault>
+    ensures one { IfOk result (λ row. rows.now ≡ row.now ∷ []) }
+    ensures key { IfOk result (λ row. column row.now 0 ≡ Int (pos 1)) }
+    ensures version { IfOk result (λ row. column row.now 1 ≡ Int (pos wanted)) }
+    ensures taken { TakesRows (IsOfVersions wanted wanted rows.now) Memory result }
+{
+    let (_, row) = row_of_versions(rows, wanted, wanted)?;
     Ok(row)
 }
 

@@ -7,5 +7,5 @@ returns g c = record {
       let store = c.end_station.result in
       let ends = c.end_station.ensures in
       left_files store c.close.result.log c.close.result.db c.close.ensures (λ clean image may. next_left store (ends.numbered clean) (ends.sound clean)
-      (λ db allowed next holds. ends.left clean db allowed) image may);
+      (λ db allowed version next holds. ends.left clean db allowed) image may);
 }

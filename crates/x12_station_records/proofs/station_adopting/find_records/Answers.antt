@@ -1,7 +1,6 @@
 use Rattle.std.proofs.Common.{Ok}
 use Rattle.sqlite.specs.Held.{state}
 use Rattle.x12_outbound.specs.Hubs.{hubs_of}
-use Rattle.x12_station.specs.Stored.{origin_of}
 use Rattle.x12_tables.proofs.FindsLemmas.{finds_then, finds_tested}
 use Rattle.x12_tables.proofs.TakesLemmas.{takes_second}
 use Rattle.x12_tables.specs.Fault.{fault_of_rows}
@@ -22,11 +21,13 @@ returns-in-Ok-clause-finds g c =
     let s1 = state g.S.Store c.find_own.new.conn in
     let s2 = state g.S.Store c.find_rows.new.conn in
     let n = c.in_ok-numbers.numbers in
-    let o = origin_of c.args.party.now (hubs_of c.args.hubs.now) in
+    let oldest = c.args.oldest in
+    let party = c.args.party.now in
+    let hubs = hubs_of c.args.hubs.now in
     let next = c.in-Ok.next in
-    let all = finds_then (FindsOwn c.args.party.now (hubs_of c.args.hubs.now)) (FindsRows n) (FindsRecords o) n (Ok next) s0 s1 s2
-    (λ next own rows. records_found s0.now n o next own.0 own.1 rows) c.in_ok-numbers.ensures.finds c.in-Ok.ensures.finds in
-    finds_tested (FindsRecords o) (FindsRecords o) next (Ok next) s0 s2 all (λ clean. (all.found clean).0)
+    let all = finds_then (FindsOwn oldest party hubs) (FindsRows n) (λ db next. FindsRecords oldest party hubs db (next, n)) n (Ok next) s0 s1 s2
+    (λ next own rows. records_found oldest party hubs s0.now n next own rows) c.in_ok-numbers.ensures.finds c.in-Ok.ensures.finds in
+    finds_tested (λ db next. FindsRecords oldest party hubs db (next, n)) (FindsRecords oldest party hubs) next (Ok (next, n)) s0 s2 all (λ clean. (all.found clean).0)
 
 pub returns-in-Err-clause-taken : goal.returns-in-Err-clause-taken
 returns-in-Err-clause-taken g c =
@@ -34,9 +35,11 @@ returns-in-Err-clause-taken g c =
     let s1 = state g.S.Store c.find_own.new.conn in
     let s2 = state g.S.Store c.find_rows.new.conn in
     let n = c.in_ok-numbers.numbers in
-    let o = origin_of c.args.party.now (hubs_of c.args.hubs.now) in
-    takes_second (FindsOwn c.args.party.now (hubs_of c.args.hubs.now)) (HoldsStationOf o) (HoldsStationBy (numbers_view n)) Memory fault.Memory n (FindsRows n) c.in-Err.fault (λ f. f ≡ fault_of_rows c.in-Err.fault) (Err c.rows_fault.result) s0 s1 s2 c.rows_fault.ensures
-    (λ f is memory. is ∙ ap fault_of_rows memory) (λ db own such. (such.0, origin_found db n own.0)) c.in_ok-numbers.ensures.finds c.in-Err.ensures.finds c.in-Err.ensures.taken
+    let oldest = c.args.oldest in
+    let party = c.args.party.now in
+    let hubs = hubs_of c.args.hubs.now in
+    takes_second (FindsOwn oldest party hubs) (HoldsStationOf oldest party hubs) (HoldsStationBy (numbers_view n)) Memory fault.Memory n (FindsRows n) c.in-Err.fault (λ f. f ≡ fault_of_rows c.in-Err.fault) (Err c.rows_fault.result) s0 s1 s2 c.rows_fault.ensures
+    (λ f is memory. is ∙ ap fault_of_rows memory) (λ db own such. (such.0.0, origin_found oldest db n own.numbers)) c.in_ok-numbers.ensures.finds c.in-Err.ensures.finds c.in-Err.ensures.taken
 
 pub returns-in-Err-clause-other : goal.returns-in-Err-clause-other
 returns-in-Err-clause-other g c found wanted is clean own = rows_name_none c.in-Err.fault c.rows_fault.result found wanted c.rows_fault.ensures is
@@ -46,15 +49,15 @@ returns-in-Err-clause-older g c =
     let s1 = state g.S.Store c.find_own.new.conn in
     let s2 = state g.S.Store c.find_rows.new.conn in
     let mid : HasCleanDisk s2 → HasCleanDisk s1 = λ clean. omega (arith, c.in-Err.ensures.finds.survives.clean, clean) in
-    older_behind fault.OldVersion fault.Memory c.in_ok-numbers.numbers (Err c.rows_fault.result) (state g.S.Store c.args.conn.now) s1 s2 c.in_ok-numbers.ensures.older mid (rows_not_old c.in-Err.fault c.rows_fault.result c.rows_fault.ensures)
+    older_behind c.args.oldest fault.OldVersion fault.Memory c.in_ok-numbers.numbers (Err c.rows_fault.result) (state g.S.Store c.args.conn.now) s1 s2 c.in_ok-numbers.ensures.older mid (rows_not_old c.in-Err.fault c.rows_fault.result c.rows_fault.ensures)
 
 pub returns-in-Ok-clause-older : goal.returns-in-Ok-clause-older
 returns-in-Ok-clause-older g c =
     let s1 = state g.S.Store c.find_own.new.conn in
     let s2 = state g.S.Store c.find_rows.new.conn in
     let mid : HasCleanDisk s2 → HasCleanDisk s1 = λ clean. omega (arith, c.in-Ok.ensures.finds.survives.clean, clean) in
-    older_behind fault.OldVersion fault.Memory c.in_ok-numbers.numbers (Ok c.in-Ok.next) (state g.S.Store c.args.conn.now) s1 s2 c.in_ok-numbers.ensures.older mid (never_old c.in-Ok.next)
+    older_behind c.args.oldest fault.OldVersion fault.Memory c.in_ok-numbers.numbers (Ok (c.in-Ok.next, c.in_ok-numbers.numbers)) (state g.S.Store c.args.conn.now) s1 s2 c.in_ok-numbers.ensures.older mid (never_old (c.in-Ok.next, c.in_ok-numbers.numbers))
 
 pub returns-in_err-numbers-clause-older : goal.returns-in_err-numbers-clause-older
 returns-in_err-numbers-clause-older g c =
-    older_on c.in_err-numbers.field-0.0 c.from_residual.result (state g.S.Store c.args.conn.now) (state g.S.Store c.find_own.new.conn) c.from_residual.ensures.1 c.in_err-numbers.ensures.older
+    older_on c.args.oldest c.in_err-numbers.field-0.0 c.from_residual.result (state g.S.Store c.args.conn.now) (state g.S.Store c.find_own.new.conn) c.from_residual.ensures.1 c.in_err-numbers.ensures.older

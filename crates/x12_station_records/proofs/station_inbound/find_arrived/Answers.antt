@@ -3,7 +3,7 @@ use Rattle.std.proofs.lemmas.Int.{to_z-of_z}
 use Rattle.sqlite.specs.Held.{state}
 use Rattle.sqlite.specs.State.{Shown}
 use Rattle.sqlite.specs.declared.types.Value.TheVariants.{Int}
-use Rattle.x12_station.specs.Stored.{StoredArrival}
+use Rattle.x12_station.specs.Stored.{StoredArrival, marks_of}
 use Rattle.x12_station_records.proofs.StationItemLemmas.{came_text, came_asks, finds_came, arrived_item}
 use Rattle.x12_station_records.specs.StationContent.{content_of}
 use Rattle.x12_station_records.specs.StationFinds.{asked_as, arrival_numbered, item_kept}
@@ -25,7 +25,8 @@ returns g c = record {
       let opened = c.read.ensures.reads.never_won_back is_open in
       let rows = c.in_ok-rows.rows.items in
       let found = arrival_numbered s seq in
+      let marks = marks_of s.origin in
       let got : Shown came_text (Int (pos (asked_as seq)) ∷ []) old new rows = rw (to_z-of_z w64 c.key_asked.result (record { sfits = c.key_asked.type_inv }), c.key_asked.ensures) at (c.in_ok-rows.ensures.shown is_open) in
       let kept = c.in_ok-filing_in.ensures (option_map (λ (r : StoredArrival). r.filed) found) (c.deref.ensures.value ∙ finds_came seq old new rows has.0.agreement s (valid.sound opened) (valid.holds opened).has got) in
-      c.item_of.ensures seq ∙ ap (option_map (item_kept seq)) kept ∙ arrived_item seq found;
+      c.item_of.ensures marks seq ∙ ap (option_map (item_kept marks seq)) kept ∙ arrived_item marks seq found;
 }

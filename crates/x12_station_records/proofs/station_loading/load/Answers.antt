@@ -1,8 +1,9 @@
-use Rattle.std.proofs.Common.{◌∙◌, ap}
+use Rattle.std.proofs.Common.{◌∙◌, ap, sym}
 use Rattle.sqlite.specs.Held.{state}
-use Rattle.x12_station.specs.Stored.{Stored, open_entries}
+use Rattle.x12_station.specs.Stored.{Stored, marks_of, open_entries}
 use Rattle.x12_tables.proofs.ReadLemmas.{then_reads}
 use Rattle.x12_station_records.proofs.ReadLemmas.{station_still, station_same}
+use Rattle.x12_station_records.proofs.StationNumberLemmas.{newest_view}
 use Rattle.x12_station_records.proofs.StationLoadLemmas.{loads}
 use Rattle.x12_station_records.specs.StationContent.{content_of}
 use Rattle.x12_station_records.specs.StationNumbers.{KeptNumbers}
@@ -28,7 +29,7 @@ returns-clause-answers g c =
           let third_has = station_still second third agreed.reads second_has in
           let third_same = station_same second third agreed.reads second_has third_open in
           let said = numbers.found has second_open in
-          loads (content_of first.now.trees) _ _ _ _ (ap (λ (n : KeptNumbers). n.book) said) (ap (λ (n : KeptNumbers). n.seq) said)
+          loads (content_of first.now.trees) _ _ _ _ _ (c.marks.ensures ∙ ap (λ (n : KeptNumbers). marks_of n.origin) (sym (newest_view c.in_ok-numbers.numbers c.in_ok-numbers.ensures.newest) ∙ said)) (ap (λ (n : KeptNumbers). n.book) said) (ap (λ (n : KeptNumbers). n.seq) said)
           (agreed.found second_has third_open ∙ ap (λ (s : Stored). s.agreements) second_same)
           (opened.found third_has is_open ∙ ap open_entries (third_same ∙ second_same));
     }
