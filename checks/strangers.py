@@ -6,7 +6,7 @@ usage: strangers.py [PROGRAM] [--only WORD]
 Two users of this machine: the hub's and its stations' account, and a partner's, which may write into his `in` and read his
 `out`, as docs/mailbox.md says. Each row is a sentence: files that are replaced, half written or growing; names of any bytes,
 and too long ones; links and pipes in a partner's folder; rights; a lost `handed`; an empty item; a mailbox that is linked
-already; numbers of mailboxes. Where a program can't be started as another user it says so, and the rows that want two users
+already; numbers of mailboxes; floods; records that are an older copy. Where a program can't be started as another user it says so, and the rows that want two users
 count neither as passed nor as failed.
 
 Prints a line for what is wrong, and last 'N passed, M failed'.
@@ -20,15 +20,19 @@ import sys
 import tempfile
 import time
 
-TOP = os.path.dirname(os.path.dirname(os.path.realpath(__file__)))
+sys.dont_write_bytecode = True
+HERE = os.path.dirname(os.path.realpath(__file__))
+sys.path[:0] = [f"{HERE}/mailbox", f"{HERE}/tools"]
+import places
+from tally import Tally
+
+TOP = os.path.dirname(HERE)
 OWNER, PARTNER, SHARED = 65531, 65532, 65533  # two users without a name, and a group of both
 OLD = "touch -d '5 minutes ago'"
 
 
 def order(icn, number="PO-1", sender="ALPHA", receiver="BETA"):
-    isa = f"ISA*00*          *00*          *ZZ*{sender:<15}*ZZ*{receiver:<15}*250102*0930*U*00401*{icn:09}*0*P*:~"
-    told = f"ST*850*0001~BEG*00*SA*{number}**20250102~PO1*1*10*EA*5~SE*4*0001~"
-    return f"{isa}GS*PO*{sender}*{receiver}*20250102*0930*{icn}*X*004010~{told}GE*1*{icn}~IEA*1*{icn:09}~"
+    return places.order(sender, receiver, icn, number)
 
 
 def may_be_another():
@@ -39,41 +43,35 @@ def may_be_another():
         return False
 
 
-class Place:
+class Place(places.Place):
     """A hub and its stations alpha and beta, which the owner's account made; beta takes orders of alpha."""
 
     def __init__(self, program, room, name, others):
-        self.folder, self.others = f"{room}/{name}", others
-        os.mkdir(self.folder)
-        shutil.copyfile(program, f"{self.folder}/van")
-        os.chmod(f"{self.folder}/van", 0o755)
+        self.others = others
+        super().__init__(program, room, name)
+        os.remove(self.path("van"))
+        shutil.copyfile(program, self.path("van"))
+        os.chmod(self.path("van"), 0o755)
         if others:
             os.chown(self.folder, OWNER, OWNER)
-        self.wants("""set -e; umask 0
-            ./van init hub --me ZZHUB --is-hub && ./van enrol hub ZZALPHA && ./van enrol hub ZZBETA
-            ./van init alpha --me ZZALPHA --hub ZZHUB --at hub && ./van init beta --me ZZBETA --hub ZZHUB --at hub
-            ./van agree beta ZZALPHA PO850""")
+        status, out, err = places.network(self, umask="0")
+        if status:
+            raise SystemExit(f"strangers: status {status}, {out} {err}")
 
     def user(self, who):
         return {"user": who, "group": who, "extra_groups": [SHARED]} if self.others else {}
 
     def run(self, command, who=OWNER):
-        how = {"stdin": subprocess.DEVNULL, "stdout": subprocess.PIPE, "stderr": subprocess.PIPE, "text": True, "errors": "replace"}
-        ran = subprocess.run(["bash", "-c", command], cwd=self.folder, timeout=120, check=False, **how, **self.user(who))
-        return ran.returncode, ran.stdout, ran.stderr
+        return super().run(command, **self.user(who))
+
+    def start(self, words):
+        return super().start(words, **self.user(OWNER))
 
     def wants(self, command):
         status, out, err = self.run(command)
         if status:
             raise SystemExit(f"strangers: {command}: status {status}, {out} {err}")
         return out
-
-    def start(self, words):
-        how = {"stdin": subprocess.DEVNULL, "stdout": subprocess.PIPE, "stderr": subprocess.PIPE}
-        return subprocess.Popen([f"{self.folder}/van", *words.split()], cwd=self.folder, **how, **self.user(OWNER))
-
-    def path(self, name):
-        return f"{self.folder}/{name}"
 
     def write(self, name, text):
         """Writes a file as the owner's; in the place of one of this name, if there is one."""
@@ -85,14 +83,8 @@ class Place:
         os.replace(f"{self.folder}/writing", path)
 
     def shared(self):
-        """The rights of a partner's account, as the page says."""
-        self.wants("chmod 711 hub hub/ZZALPHA")
-        for name, rights in (("in", 0o2770), ("out", 0o2750)):
-            os.chown(self.path(f"hub/ZZALPHA/{name}"), OWNER, SHARED)
-            os.chmod(self.path(f"hub/ZZALPHA/{name}"), rights)
-
-    def names(self, folder):
-        return sorted(it for it in os.listdir(self.path(folder)) if not it.startswith("."))
+        """The rights of a partner's account, by the option that the page names."""
+        self.wants(f"./van enrol hub ZZALPHA --group {SHARED}")
 
 
 def waits_for(path, seconds=60):
@@ -261,6 +253,16 @@ def a_second_station_at_a_mailbox(place):
     return is_so and "hub is the hub ZZ/HUB, and not ZZ/WRONG" in wrong[2], f"{second} {wrong} {again}"
 
 
+def a_second_station_of_one_name(place):
+    """A station of alpha's name on another machine uses alpha's numbers: alpha hears of it by the answers."""
+    for who, dated in (("alpha", "202501020930"), ("second", "202501020931")):
+        place.wants(f"[ -d {who} ] || ./van init {who} --me ZZALPHA --hub ZZHUB; ./van submit {who} --to ZZBETA --order PO-1 --now {dated}")
+    place.wants("for who in hub beta hub alpha; do ./van run $who; done; cp second/out/sent-* hub/ZZALPHA/in/; touch -d '5 minutes ago' hub/ZZALPHA/in/*")
+    status, out, err = place.run("for who in hub beta hub alpha; do ./van run $who; done")
+    told = "van: alpha: unexpected answers: 1, to no set that it submitted or against an earlier answer: another station may run under its name\n"
+    return (status, err) == (0, told), f"{status} {out} {err}"
+
+
 def a_folder_that_is_named_twice_is_reconciled_once(place):
     place.write("o.edi", order(1))
     place.wants("./van submit alpha o.edi")
@@ -274,6 +276,58 @@ def all_that_is_made_is_the_owners_alone(place):
     place.wants("umask 0; ./van submit alpha o.edi; for who in hub beta hub alpha; do ./van run $who; done")
     found = place.wants("find hub alpha beta ! -type l -perm /077 ! -path '*/in/text'")
     return not found, found
+
+
+def an_order_that_is_a_file(place):
+    place.write("po.edi", order(1))
+    status, out, err = place.run("./van submit alpha --to ZZBETA --order PO-7 po.edi; ./van status alpha")
+    told = "van: --order: po.edi is a file, and no order's number: name files without --to and --order\n"
+    return (out.count("\n"), err) == (1, told), f"{status} {out} {err}"
+
+
+def an_order_that_cannot_be_put(place):
+    """It is submitted, and told so; the next run puts it, without --resend; the run after that sends nothing again."""
+    first = place.run("mv hub/ZZALPHA/in hub/ZZALPHA/away; ./van submit alpha --to ZZBETA --order PO-1; mv hub/ZZALPHA/away hub/ZZALPHA/in")
+    second = place.run("./van run alpha; ls alpha/out/; rm alpha/out/*; ./van run alpha; ls alpha/out/")
+    told = "van: alpha: 000000001 from ZZ/ALPHA to ZZ/BETA is submitted, and the next van run puts it\n"
+    put = "alpha/out/sent-000000001.edi: 000000001 from ZZ/ALPHA to ZZ/BETA\nsent-000000001.edi\n"
+    return first[2].endswith(told) and second == (0, put, ""), f"{first} {second}"
+
+
+def a_flood_delays_others_by_one_turn(place):
+    """10,000 files of nine bytes from alpha, and an order from beta: the first turn passes the order on."""
+    place.write("o.edi", order(1, sender="BETA", receiver="ALPHA"))
+    place.wants("cd hub/ZZALPHA/in; for n in {00001..10000}; do printf 123456789 >$n; done")
+    place.wants("./van submit beta o.edi")
+    status, out, err = place.run("./van run hub | grep -v '^hub/ZZALPHA/refused/'; ls hub/ZZALPHA/in hub/ZZALPHA/refused | wc -l")
+    waits = "hub/ZZALPHA/in: 9000 more files wait for the next turn\n"
+    is_so = waits in out and "hub/ZZALPHA/out/item-000000001.edi: 000000001 from ZZ/BETA" in out
+    second = place.run("./van run hub | grep more; ls hub/ZZALPHA/in | wc -l")[1]
+    return is_so and second == f"{waits.replace('9000', '8000')}8000\n", f"{status} {out[-600:]} {err[-300:]} {second}"
+
+
+def a_group_that_is_not_there(place):
+    told = [place.run(f"./van enrol hub ZZDELTA --group {words}; ls -d hub/ZZDELTA")
+            for words in ("no-such-group", "1 --dismiss", "1 --hub ZZOTHER")]
+    one = "van: --group: this machine has no group no-such-group\n"
+    both = "van: --group goes with none of --dismiss, --at and --hub\n"
+    return all(it[2].startswith(said) and not it[1] for it, said in zip(told, (one, both, both))), f"{told}"
+
+
+def records_that_are_an_older_copy(place):
+    """Each command refuses records that have less than the last turn counted, and changes nothing."""
+    place.write("o.edi", order(1))
+    place.wants("./van submit alpha o.edi && for who in hub beta hub alpha; do ./van run $who; done; mkdir old && cp -a alpha beta hub old")
+    place.write("p.edi", order(2, "PO-2"))
+    place.wants("./van submit alpha p.edi && for who in hub beta hub alpha; do ./van run $who; done")
+    place.wants("for who in alpha beta hub; do cp -a old/$who/records.db* $who; done")
+    for words in ("run alpha", "status alpha", "log alpha", "verify alpha", "submit alpha o.edi", "agree alpha ZZBETA PO850",
+                  "postings beta", "run beta", "reconcile alpha beta", "run hub", "status hub", "enrol hub ZZGAMMA"):
+        status, out, err = place.run(f"./van {words}")
+        who = words.split()[1]
+        if status != 1 or out or not err.startswith(f"van: {who}/counts: the records have less than was counted"):
+            return False, f"{words}: {status} {out} {err}"
+    return True, ""
 
 
 def links_of_a_partner_are_not_followed(place):
@@ -307,15 +361,14 @@ def a_partner_reads_and_writes_his_own_alone(place):
     return is_so, f"{reads} {wrote} {[it[:40] for it in others]} {out} {err}"
 
 
-WITH_ONE = [
-    a_file_that_is_replaced_in_submit, a_file_that_is_replaced_at_the_hub, a_file_that_is_half_written,
-    a_file_that_ends_early_and_is_old, a_file_that_grows_while_it_is_taken, names_of_files_that_are_not_there_yet,
-    an_item_that_is_empty, a_name_that_is_not_utf_8, a_refused_name_that_is_too_long, names_of_which_a_thousand_are_kept,
-    a_reason_never_overwrites, a_folder_with_a_dot_in_posted, a_lost_mark_hands_nothing_over, a_second_station_at_a_mailbox,
-    a_name_that_is_refused_in_a_watch_loses_nothing, a_number_of_a_mailbox_is_never_given_twice,
-    a_folder_that_is_named_twice_is_reconciled_once, all_that_is_made_is_the_owners_alone, nothing_is_written_through_a_link,
-]
+# The rows that want two users; the others want one.
 WITH_TWO = [links_of_a_partner_are_not_followed, a_partner_reads_and_writes_his_own_alone]
+
+
+def rows():
+    """The functions that are rows: those of a place alone."""
+    return [it for it in globals().values() if getattr(it, "__code__", None) and it.__code__.co_varnames[:1] == ("place",)
+            and it.__code__.co_argcount == 1]
 
 
 def main():
@@ -323,19 +376,16 @@ def main():
     reading.add_argument("program", nargs="?", default=f"{TOP}/crates/van/out/van")
     reading.add_argument("--only", default="")
     asked = reading.parse_args()
-    others, passed, failed = may_be_another(), 0, 0
+    others, tally = may_be_another(), Tally("strangers")
     if not others:
         print(f"strangers: no program can be started as another user here, so {len(WITH_TWO)} rows weren't tried")
     with tempfile.TemporaryDirectory(prefix="strangers-") as room:
         os.chmod(room, 0o711)
-        for row in WITH_ONE + WITH_TWO * others:
-            if asked.only in row.__name__:
+        for row in rows():
+            if asked.only in row.__name__ and (others or row not in WITH_TWO):
                 is_so, said = row(Place(os.path.abspath(asked.program), room, row.__name__, others))
-                passed, failed = passed + bool(is_so), failed + (not is_so)
-                if not is_so:
-                    print(f"strangers, {row.__name__.replace('_', ' ')}: {said}")
-    print(f"{passed} passed, {failed} failed")
-    return 1 if failed else 0
+                tally.want(row.__name__.replace("_", " "), is_so, said)
+    return tally.end()
 
 
 if __name__ == "__main__":

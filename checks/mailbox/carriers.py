@@ -3,20 +3,31 @@ import os
 import re
 import shutil
 
-from places import THERE_AND_BACK, Place, are_taken_once, finish, network, order, take_posted, two_hubs
+from places import ONE_HUB, THERE_AND_BACK, Place, are_taken_once, finish, network, order, take_posted, two_hubs
+
+
+# The folders that a carrier moves files between: of two stations and their hub, and of two hubs.
+OF_STATIONS = (("alpha/out", "hub/ZZALPHA/in"), ("beta/out", "hub/ZZBETA/in"), ("hub/ZZALPHA/out", "alpha/in"), ("hub/ZZBETA/out", "beta/in"))
+OF_HUBS = (("hub1/ZZHUB2/out", "hub2/ZZHUB1/in"), ("hub2/ZZHUB1/out", "hub1/ZZHUB2/in"))
+
+
+def with_six_orders(program, room, name, network_of):
+    """A place whose folders nothing links, where alpha has submitted six orders."""
+    place = Place(program, room, name)
+    network_of(place, at=False)
+    for n in range(6):
+        place.run(f"./van submit alpha --to ZZBETA --order PO-{n}")
+    return place
 
 
 def try_twice(tally, program, room, draw):
     """Each file comes again, under another name and in another order."""
-    place = Place(program, room, "twice")
-    network(place, at=False)
-    for n in range(6):
-        place.run(f"./van submit alpha --to ZZBETA --order PO-{n}")
+    place = with_six_orders(program, room, "twice", network)
     sent, taken = [], []
 
     def carry():
         take_posted(place, taken)
-        for a, b in (("alpha/out", "hub/ZZALPHA/in"), ("beta/out", "hub/ZZBETA/in"), ("hub/ZZALPHA/out", "alpha/in"), ("hub/ZZBETA/out", "beta/in")):
+        for a, b in OF_STATIONS:
             for name in place.names(a):
                 os.rename(place.path(f"{a}/{name}"), place.path(f"carried-{len(sent)}"))
                 sent.append((f"carried-{len(sent)}", b, name))
@@ -33,50 +44,33 @@ def try_twice(tally, program, room, draw):
     are_taken_once(tally, place, "twice", taken, 6)
 
 
-def try_losses(tally, program, room):
-    """A carrier loses each third file; what isn't answered is sent again."""
-    place = Place(program, room, "losses")
-    network(place, at=False)
-    for n in range(6):
-        place.run(f"./van submit alpha --to ZZBETA --order PO-{n}")
+def lost_by_thirds(tally, name, place, ways, nodes):
+    """A carrier moves files, and loses each third one; what isn't answered is sent again."""
     count = 0
 
     def carry():
         nonlocal count
-        for a, b in (("alpha/out", "hub/ZZALPHA/in"), ("beta/out", "hub/ZZBETA/in"), ("hub/ZZALPHA/out", "alpha/in"), ("hub/ZZBETA/out", "beta/in")):
-            for name in place.names(a):
+        for a, b in ways:
+            for file in place.names(a):
                 count += 1
                 if count % 3 == 0:
-                    os.remove(place.path(f"{a}/{name}"))
+                    os.remove(place.path(f"{a}/{file}"))
                 else:
-                    os.rename(place.path(f"{a}/{name}"), place.path(f"{b}/{name}"))
+                    os.rename(place.path(f"{a}/{file}"), place.path(f"{b}/{file}"))
 
-    turns = finish(place, carry=carry)
-    tally.want("losses", 0 < turns < 12, f"{turns} rounds")
-    tally.ended_well(place, "losses", 6)
+    turns = finish(place, nodes, carry)
+    tally.want(name, 0 < turns < 12, f"{turns} rounds")
+    tally.ended_well(place, name, 6)
+
+
+def try_losses(tally, program, room):
+    """Between stations and their hub."""
+    lost_by_thirds(tally, "losses", with_six_orders(program, room, "losses", network), OF_STATIONS, ONE_HUB)
 
 
 def try_hubs_losses(tally, program, room):
-    """A carrier between two hubs moves files, and loses each third one; what isn't answered is sent again."""
-    place = Place(program, room, "hubs-losses")
-    two_hubs(place, at=False)
-    for n in range(6):
-        place.run(f"./van submit alpha --to ZZBETA --order PO-{n}")
-    count = 0
-
-    def carry():
-        nonlocal count
-        for a, b in (("hub1/ZZHUB2/out", "hub2/ZZHUB1/in"), ("hub2/ZZHUB1/out", "hub1/ZZHUB2/in")):
-            for name in place.names(a):
-                count += 1
-                if count % 3 == 0:
-                    os.remove(place.path(f"{a}/{name}"))
-                else:
-                    os.rename(place.path(f"{a}/{name}"), place.path(f"{b}/{name}"))
-
-    turns = finish(place, THERE_AND_BACK, carry)
-    tally.want("hubs-losses", 0 < turns < 12, f"{turns} rounds")
-    tally.ended_well(place, "hubs-losses", 6)
+    """Between two hubs."""
+    lost_by_thirds(tally, "hubs-losses", with_six_orders(program, room, "hubs-losses", two_hubs), OF_HUBS, THERE_AND_BACK)
 
 
 def try_hubs_ring(tally, program, room):
@@ -89,7 +83,7 @@ def try_hubs_ring(tally, program, room):
         place.run(order_to_ring.format(*at))
 
         def carry(fronts):
-            for a, b in (("hub1/ZZHUB2/out", "hub2/ZZHUB1/in"), ("hub2/ZZHUB1/out", "hub1/ZZHUB2/in")):
+            for a, b in OF_HUBS:
                 for name in place.names(a):
                     if name.startswith(fronts):
                         os.rename(place.path(f"{a}/{name}"), place.path(f"{b}/{name}"))

@@ -1,11 +1,11 @@
 """Programs that are killed at random moments, and others that are over the same folder."""
-import contextlib
 import os
 import signal
 import subprocess
 import time
 
 from places import ONE_HUB, THERE_AND_BACK, Place, are_taken_once, finish, network, order, take_posted, two_hubs
+from terminal import on_terminal
 
 
 def try_two(tally, program, room):
@@ -37,18 +37,10 @@ def try_terminal(tally, program, room):
     """On a terminal, where lines go elsewhere, a watch says how it stands on one line that it rewrites."""
     place = Place(program, room, "terminal")
     network(place)
-    ours, theirs = os.openpty()
     words = [place.path("van"), "run", "alpha", "--watch", "1", "--turns", "2"]
-    how = {"stdin": subprocess.DEVNULL, "stdout": subprocess.DEVNULL, "stderr": theirs}
-    ran = subprocess.run(words, cwd=place.folder, timeout=120, check=False, **how)
-    os.close(theirs)
-    said = b""
-    with contextlib.suppress(OSError):  # what its end is told by, once all was read
-        while piece := os.read(ours, 1000):
-            said += piece
-    os.close(ours)
+    status, _, said = on_terminal(words, "stderr", cwd=place.folder, stdout=subprocess.DEVNULL)
     wanted = b"\rturn 1: open 0, settled 0 \rturn 2: open 0, settled 0 "
-    tally.want("terminal", (ran.returncode, said) == (0, wanted), f"status {ran.returncode}, {said!r}")
+    tally.want("terminal", (status, said) == (0, wanted), f"status {status}, {said!r}")
 
 
 def try_kills(tally, program, room, kills, before, draw, hubs=("hub",)):

@@ -4,6 +4,8 @@ import re
 import shutil
 import subprocess
 
+from tally import Tally
+
 # Dates and times of day of the clock, which differ in each run.
 CLOCK = re.compile(r"\b\d{6} \d{4}\b")
 # The nodes of one hub, and of two connected hubs, in the order of an order's way there and back.
@@ -19,16 +21,16 @@ class Place:
         os.makedirs(self.folder)
         os.symlink(program, f"{self.folder}/van")
 
-    def run(self, command):
+    def run(self, command, **more):
         """The status of a command of the shell, and what it wrote."""
-        how = {"stdin": subprocess.DEVNULL, "stdout": subprocess.PIPE, "stderr": subprocess.PIPE, "text": True}
-        ran = subprocess.run(["bash", "-c", command], cwd=self.folder, timeout=120, check=False, errors="replace", **how)
+        how = {"stdin": subprocess.DEVNULL, "stdout": subprocess.PIPE, "stderr": subprocess.PIPE, "text": True, "errors": "replace"}
+        ran = subprocess.run(["bash", "-c", command], cwd=self.folder, timeout=300, check=False, **how, **more)
         return ran.returncode, ran.stdout, ran.stderr
 
-    def start(self, words):
+    def start(self, words, **more):
         """The program, running."""
-        words = [f"{self.folder}/van", *words.split()]
-        return subprocess.Popen(words, cwd=self.folder, stdin=subprocess.DEVNULL, stdout=subprocess.PIPE, stderr=subprocess.PIPE)
+        how = {"stdin": subprocess.DEVNULL, "stdout": subprocess.PIPE, "stderr": subprocess.PIPE}
+        return subprocess.Popen([f"{self.folder}/van", *words.split()], cwd=self.folder, **how, **more)
 
     def path(self, name):
         return f"{self.folder}/{name}"
@@ -42,18 +44,8 @@ class Place:
             file.write(text)
 
 
-class Tally:
-    """What passed and what failed."""
-
-    def __init__(self):
-        self.passed, self.failed = 0, 0
-
-    def want(self, name, is_so, said=""):
-        if is_so:
-            self.passed += 1
-        else:
-            self.failed += 1
-            print(f"mailbox, {name}: {said}".rstrip())
+class Mailboxes(Tally):
+    """What passed and what failed of commands of mailboxes."""
 
     def row(self, place, name, command, wanted):
         """Runs a command, and wants its status, output and sentences."""
@@ -79,11 +71,11 @@ def order(sender, receiver, icn, number="PO-1"):
     return f"{isa}GS*PO*{sender}*{receiver}*20250102*0930*{icn}*X*004010~{told}GE*1*{icn}~IEA*1*{icn:09}~"
 
 
-def network(place, at=True):
+def network(place, at=True, umask="077"):
     """A hub, and two stations at it, of which beta takes orders of alpha."""
     link = " --at hub" if at else ""
     return place.run(f"""
-        set -e
+        set -e; umask {umask}
         ./van init hub --me ZZHUB --is-hub && ./van enrol hub ZZALPHA && ./van enrol hub ZZBETA
         ./van init alpha --me ZZALPHA --hub ZZHUB{link} && ./van init beta --me ZZBETA --hub ZZHUB{link}
         ./van agree beta ZZALPHA PO850""")
@@ -119,7 +111,7 @@ def finish(place, nodes=ONE_HUB, carry=None):
 
 def take_posted(place, taken):
     """An order system takes away what was handed over to it."""
-    for name in place.names("beta/posted"):
+    for name in place.names("beta/posted") if os.path.isdir(place.path("beta/posted")) else ():
         with open(place.path(f"beta/posted/{name}"), "rb") as file:
             taken.append((name, file.read()))
         os.remove(place.path(f"beta/posted/{name}"))

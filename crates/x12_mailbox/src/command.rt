@@ -4,6 +4,7 @@ use crate::agreeing::AgreeWords;
 use crate::enrolling::EnrolWords;
 use crate::logging::LogWords;
 use crate::making::InitWords;
+use crate::migrating::MigrateWords;
 use crate::opening::OpensRecords;
 use crate::posted::PostingsWords;
 use crate::reconciling::ReconcileWords;
@@ -13,8 +14,8 @@ use crate::stop::Stop;
 use crate::submitting::SubmitWords;
 use crate::verifying::VerifyWords;
 use crate::{
-    agreeing, enrolling, logging, making, posted, reconciling, running, status, submitting,
-    verifying,
+    agreeing, enrolling, logging, making, migrating, posted, reconciling, running, status,
+    submitting, verifying,
 };
 use clap::ArgMatches;
 use command_table::{HasRow, Row};
@@ -42,10 +43,12 @@ pub enum Command {
     Reconcile,
     /// Computes a station's fates, postings and numbers again, and says the first difference.
     Verify,
+    /// Brings a station's records of an older version to the newest.
+    Migrate,
 }
 
 /// All of them, in the order of the help.
-pub static COMMANDS: [Command; 10] = [
+pub static COMMANDS: [Command; 11] = [
     Command::Init,
     Command::Enrol,
     Command::Agree,
@@ -56,6 +59,7 @@ pub static COMMANDS: [Command; 10] = [
     Command::Postings,
     Command::Reconcile,
     Command::Verify,
+    Command::Migrate,
 ];
 
 impl HasRow for Command {
@@ -71,6 +75,7 @@ impl HasRow for Command {
             Command::Postings => posted::row(),
             Command::Reconcile => reconciling::row(),
             Command::Verify => verifying::row(),
+            Command::Migrate => migrating::row(),
         }
     }
 }
@@ -97,6 +102,7 @@ impl Command {
             Command::Postings => posted::postings(rt, opens, &PostingsWords::of(found)),
             Command::Reconcile => reconciling::reconcile(rt, opens, &ReconcileWords::of(found)),
             Command::Verify => verifying::verify(rt, opens, &VerifyWords::of(found)),
+            Command::Migrate => migrating::migrate(rt, opens, &MigrateWords::of(found)),
         }
     }
 }

@@ -57,7 +57,7 @@ pub(crate) fn difference_text(alloc: Global, difference: Difference) -> Result<S
     match difference {
         Difference::Owner => String::from_str(
             alloc,
-            "its records name a party that no mailbox can have, or read what came otherwise",
+            "its records name a party that no mailbox can have",
         ),
         Difference::Refused(number, fault) => {
             item_text(alloc, number, station_text(alloc, fault)?.as_str())

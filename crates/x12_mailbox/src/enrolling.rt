@@ -11,6 +11,7 @@ use crate::making::make_below;
 use crate::numbers::{add_of_folders, known_numbers};
 use crate::opening::{OpensRecords, open_a_hub};
 use crate::options::{STATUSES, text};
+use crate::rights::{group_of, share};
 use crate::say::{misuse, refusal, say, text_of, trouble};
 use crate::stop::Stop;
 use crate::whose::marked_hub;
@@ -24,7 +25,7 @@ use x12_hub::{Hub, HubFault, HubRecords};
 use x12_spool::next_node;
 
 /// The words of the command.
-static WORDS: [Word; 5] = [
+static WORDS: [Word; 6] = [
     Word {
         kind: Kind::One,
         name: "dir",
@@ -48,6 +49,12 @@ static WORDS: [Word; 5] = [
         name: "hub",
         value: "QQID",
         help: "The hub that the party is at, if that is one on another machine",
+    },
+    Word {
+        kind: Kind::Value,
+        name: "group",
+        value: "GROUP",
+        help: "Whose accounts may write into the mailbox's `in` and read its `out`: the group of the partner and of the hub, by name or number",
     },
     Word {
         kind: Kind::Flag,
@@ -78,6 +85,8 @@ pub(crate) struct EnrolWords<'a> {
     pub(crate) at: Option<&'a str>,
     /// `--hub`.
     pub(crate) hub: Option<&'a str>,
+    /// `--group`.
+    pub(crate) group: Option<&'a str>,
     /// `--dismiss`.
     pub(crate) dismiss: bool,
 }
@@ -90,6 +99,7 @@ impl<'a> EnrolWords<'a> {
             party: text(found, "party"),
             at: found.get_str("at"),
             hub: found.get_str("hub"),
+            group: found.get_str("group"),
             dismiss: found.get_flag("dismiss"),
         }
     }
@@ -173,20 +183,31 @@ pub(crate) fn enrol_in<H: HubRecords>(
     Ok(0)
 }
 
+/// Makes the folders of a mailbox, and gives a group its rights there, if one is named.
+fn make_mailbox(rt: &HostRuntime, words: &EnrolWords<'_>, mailbox: &str) -> Result<(), Stop> {
+    let Some(word) = words.group else {
+        return make_below(rt, mailbox, &["in", "out", "refused"]);
+    };
+    let group = group_of(rt, word)?;
+    make_below(rt, mailbox, &["in", "out", "refused"])?;
+    share(rt, words.dir, mailbox, group)
+}
+
 /// Gives a party a mailbox of its own.
 fn enrol_at<H: HubRecords>(
     rt: &HostRuntime,
     hub: &mut Hub<H>,
-    dir: &str,
+    words: &EnrolWords<'_>,
     party: Party,
     known: &[u16],
 ) -> Result<u8, Stop> {
+    let dir = words.dir;
     let mailbox = mailbox_of(rt, dir, &party)?;
     let mailbox = mailbox.as_str();
     if marked_hub(rt, mailbox)?.is_some() {
         return Err(trouble(rt, &[mailbox, " is the mailbox of a hub, and of no party"]));
     }
-    make_below(rt, mailbox, &["in", "out", "refused"])?;
+    make_mailbox(rt, words, mailbox)?;
     enrol_in(rt, hub, dir, mailbox, party, known)
 }
 
@@ -225,7 +246,7 @@ fn enrol_or_dismiss<H: HubRecords>(
     }
     match other {
         Some(other) => enrol_beyond(rt, hub, words, other, party, known),
-        None => enrol_at(rt, hub, words.dir, party, known),
+        None => enrol_at(rt, hub, words, party, known),
     }
 }
 
@@ -254,6 +275,9 @@ pub(crate) fn enrol<O: OpensRecords>(
     let other = other_hub(rt, words)?;
     if words.dismiss && other.is_some() {
         return Err(misuse(rt, &["--dismiss goes with neither --at nor --hub"]));
+    }
+    if words.group.is_some() && (words.dismiss || other.is_some()) {
+        return Err(misuse(rt, &["--group goes with none of --dismiss, --at and --hub"]));
     }
     // what another program gives meanwhile stands in a folder, which is read while the hub is open
     let known = if is_new(rt, words, &party, &other)? {

@@ -29,6 +29,8 @@ pub(crate) struct Files<'a> {
     pub(crate) aside: String,
     /// What the names of files that came may say.
     pub(crate) names: Names,
+    /// How many files a turn takes at most.
+    pub(crate) most: usize,
     /// How many bytes were read last.
     read: usize,
     /// A file of this turn can't be moved or read: the turn isn't done.
@@ -51,13 +53,14 @@ pub(crate) fn files_in<'a>(
         to: below(alloc, dir, to)?,
         aside: below(alloc, dir, "refused")?,
         names,
+        most: usize::MAX,
         read: 0,
         is_troubled: false,
     })
 }
 
 /// What the first interchange of these bytes is: its number, its sender and its receiver.
-fn told(alloc: Global, bytes: &[u8]) -> Result<String, AllocError> {
+pub(crate) fn told(alloc: Global, bytes: &[u8]) -> Result<String, AllocError> {
     let Ok(header) = read_header(bytes) else {
         return format!(in alloc; "{} bytes", bytes.len());
     };
@@ -143,7 +146,19 @@ impl<'a> Files<'a> {
             names = names_in(self.rt, self.own.as_str())?;
         }
         add_new(&mut names, came)?;
+        self.leave_rest(&mut names)?;
         Ok(names)
+    }
+
+    /// Leaves the files that are too many for one turn to the next one, and says so.
+    fn leave_rest(&self, names: &mut Vec<Vec<u8>>) -> Result<(), SpoolFault> {
+        let rest = names.len().saturating_sub(self.most);
+        if rest == 0 {
+            return Ok(());
+        }
+        names.truncate(self.most);
+        let what = format!(in self.rt.alloc(); "{rest} more files wait for the next turn")?;
+        line(self.rt, self.from.as_str(), what.as_str())
     }
 
     /// Removes a file that was taken, unless somebody wrote on: then the next turn takes it again.

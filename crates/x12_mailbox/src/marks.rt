@@ -1,17 +1,21 @@
 //! The file `handed` of a station's folder: how many of its sets were handed over.
 
 use crate::agreeing::station_trouble;
-use crate::folder::{put, stands};
-use crate::say::{misuse, refusal, trouble};
+use crate::pairs::PairFile;
+use crate::say::{misuse, trouble};
 use crate::stop::Stop;
-use crate::words::below;
-use std::fs;
 use x12_envelopes::number_of;
 use x12_spool::SpoolFault;
 use x12_station::{Records, Station};
 
-/// The file that says how many sets were handed over.
-const HANDED: &str = "handed";
+/// The file of a folder that says how many sets were handed over.
+fn file_in(dir: &str) -> PairFile<'_> {
+    PairFile {
+        dir,
+        name: "handed",
+        wrong: "it doesn't say how many sets were handed over",
+    }
+}
 
 /// How many sets were handed over, and how many before the last of them were.
 #[derive(Clone, Copy)]
@@ -20,38 +24,18 @@ pub(crate) struct Mark {
     pub(crate) handed: u64,
 }
 
-/// The numbers of a mark, as `12 15`.
-fn numbers_in(text: &str) -> Option<Mark> {
-    let (before, handed) = text.trim_ascii_end().split_once(' ')?;
-    let before = before.parse().ok()?;
-    let handed = handed.parse().ok()?;
-    Some(Mark { before, handed })
-}
-
 /// The mark in a station's folder, if there is one.
 fn mark_in(rt: &HostRuntime, dir: &str) -> Result<Option<Mark>, Stop> {
-    let path = below(rt.alloc(), dir, HANDED)?;
-    let path = path.as_str();
-    if !stands(rt, path)? {
-        return Ok(None);
-    }
-    match fs::read_to_string(rt, path) {
-        Ok(text) => match numbers_in(text.as_str()) {
-            Some(mark) => Ok(Some(mark)),
-            None => Err(trouble(
-                rt,
-                &[path, ": it doesn't say how many sets were handed over"],
-            )),
-        },
-        Err(error) => Err(refusal(rt, path, "it can't be read", &error)),
+    match file_in(dir).read(rt)? {
+        Some((before, handed)) => Ok(Some(Mark { before, handed })),
+        None => Ok(None),
     }
 }
 
 /// Writes a mark, whole and on the disk.
 pub(crate) fn write_mark(rt: &HostRuntime, dir: &str, mark: &Mark) -> Result<(), SpoolFault> {
     let Mark { before, handed } = *mark;
-    let text = format!(in rt.alloc(); "{before} {handed}\n")?;
-    put(rt, dir, HANDED, text.as_bytes())
+    file_in(dir).write(rt, before, handed)
 }
 
 /// Whether a station has a set of this number.
@@ -67,14 +51,6 @@ fn has_posting<R: Records>(
     }
 }
 
-/// Says of the file `handed` what is wrong.
-fn of_mark(rt: &HostRuntime, dir: &str, what: &str) -> Stop {
-    match below(rt.alloc(), dir, HANDED) {
-        Ok(path) => trouble(rt, &[path.as_str(), ": ", what]),
-        Err(_) => Stop::Memory,
-    }
-}
-
 /// The mark of a folder without one: that of a station that has no set yet, which is written down. Where
 /// it has sets, nobody knows which were handed over.
 fn first_mark<R: Records>(
@@ -83,9 +59,8 @@ fn first_mark<R: Records>(
     station: &mut Station<R>,
 ) -> Result<Mark, Stop> {
     if has_posting(rt, dir, station, 1)? {
-        return Err(of_mark(
+        return Err(file_in(dir).trouble(
             rt,
-            dir,
             "it isn't there, so say how many sets were handed over, by van run with --handed N",
         ));
     }
@@ -107,9 +82,8 @@ pub(crate) fn found_mark<R: Records>(
     if mark.handed == 0 || has_posting(rt, dir, station, mark.handed)? {
         return Ok(mark);
     }
-    Err(of_mark(
+    Err(file_in(dir).trouble(
         rt,
-        dir,
         "more sets were handed over than the records have, which are an older copy",
     ))
 }
@@ -131,9 +105,8 @@ pub(crate) fn give_mark<R: Records>(
         ));
     };
     if mark_in(rt, dir)?.is_some() {
-        return Err(of_mark(
+        return Err(file_in(dir).trouble(
             rt,
-            dir,
             "it is there, and says how many sets were handed over",
         ));
     }

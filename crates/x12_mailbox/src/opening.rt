@@ -3,6 +3,8 @@
 ghost use Rattle.std.specs.Prelude.{IsTrue};
 ghost use Rattle.x12_envelopes.specs.Party.{is_plain_party};
 
+use crate::counts::{test_hub, test_station};
+use crate::enrolling::hub_trouble;
 use crate::folder::stands;
 use crate::say::trouble;
 use crate::stop::Stop;
@@ -13,7 +15,16 @@ use x12_envelopes::Party;
 use x12_hub::{Hub, HubRecords};
 use x12_station::{Records, Station};
 
-/// Who opens the records at a path, and makes them.
+/// Which version records were of before a migration, and which they are of.
+#[derive(Clone, Copy)]
+pub struct Migration {
+    /// The version before.
+    pub was: u32,
+    /// The version now: the newest.
+    pub is: u32,
+}
+
+/// Who opens the records at a path, makes them, and brings them to the newest version.
 pub trait OpensRecords {
     /// A station's records.
     type Station: Records + Drop;
@@ -38,6 +49,18 @@ pub trait OpensRecords {
 
     /// Opens the hub of this party over the records that it left at this path.
     fn hub(&self, rt: &HostRuntime, path: &str, me: Party) -> Result<Hub<Self::Hub>, Self::Fault>
+        requires { IsTrue (is_plain_party me) };
+
+    /// Brings the records of the station of this party at a path to the newest version, and answers which
+    /// version they were of.
+    fn migrate_station(
+        &self,
+        rt: &HostRuntime,
+        path: &str,
+        me: Party,
+        hub: Party,
+        other: Option<Party>,
+    ) -> Result<Migration, Self::Fault>
         requires { IsTrue (is_plain_party me) };
 
     /// Makes the records of the station of this party at a path, and answers whether it did; where
@@ -106,7 +129,7 @@ pub(crate) fn records_below(rt: &HostRuntime, dir: &str) -> Result<String, Stop>
 }
 
 /// The path of the records in a folder, which are there.
-fn records_in(rt: &HostRuntime, dir: &str) -> Result<String, Stop> {
+pub(crate) fn records_in(rt: &HostRuntime, dir: &str) -> Result<String, Stop> {
     let path = records_below(rt, dir)?;
     if stands(rt, path.as_str())? {
         return Ok(path);
@@ -121,8 +144,42 @@ fn records_in(rt: &HostRuntime, dir: &str) -> Result<String, Stop> {
 }
 
 /// Says that a party isn't plain.
-fn no_plain_party(rt: &HostRuntime, dir: &str) -> Stop {
+pub(crate) fn no_plain_party(rt: &HostRuntime, dir: &str) -> Stop {
     trouble(rt, &[dir, " names a party that no mailbox can have"])
+}
+
+/// A station, unless its records have less than was counted.
+fn tested_station<R: Records + Drop>(
+    rt: &HostRuntime,
+    dir: &str,
+    station: Station<R>,
+) -> Result<Station<R>, Stop> {
+    let mut station = station;
+    match test_station(rt, dir, &mut station) {
+        Ok(()) => Ok(station),
+        Err(stop) => {
+            drop(station.close());
+            Err(stop)
+        }
+    }
+}
+
+/// A hub, unless its records have less than was counted.
+fn tested_hub<H: HubRecords + Drop>(
+    rt: &HostRuntime,
+    dir: &str,
+    hub: Hub<H>,
+) -> Result<Hub<H>, Stop> {
+    let me = hub.party();
+    let mut records = hub.close();
+    match records.load() {
+        Ok(loaded) => test_hub(rt, dir, &loaded)?,
+        Err(fault) => return Err(hub_trouble(rt, dir, fault.into())),
+    }
+    match Hub::open(rt.alloc(), me, records) {
+        Ok(hub) => Ok(hub),
+        Err((_, fault)) => Err(hub_trouble(rt, dir, fault)),
+    }
 }
 
 /// The station of this party over the records in a folder.
@@ -139,7 +196,7 @@ pub(crate) fn station_in<O: OpensRecords>(
         return Err(no_plain_party(rt, dir));
     }
     match opens.station(rt, path.as_str(), me, hub, other) {
-        Ok(station) => Ok(station),
+        Ok(station) => tested_station(rt, dir, station),
         Err(fault) => Err(unopened(rt, opens, path.as_str(), fault)),
     }
 }
@@ -156,7 +213,7 @@ pub(crate) fn hub_in<O: OpensRecords>(
         return Err(no_plain_party(rt, dir));
     }
     match opens.hub(rt, path.as_str(), me) {
-        Ok(hub) => Ok(hub),
+        Ok(hub) => tested_hub(rt, dir, hub),
         Err(fault) => Err(unopened(rt, opens, path.as_str(), fault)),
     }
 }

@@ -2,6 +2,7 @@
 
 use crate::clock::moment;
 use crate::connecting::mailboxes_of;
+use crate::counts::{count_hub, nodes_of};
 use crate::enrolling::hub_trouble;
 use crate::files::{Files, files_in};
 use crate::naming::Names;
@@ -14,8 +15,8 @@ use crate::words::{below, party_name};
 use clap::ArgMatches;
 use command_table::{Kind, Row, Word};
 use std::alloc::{AllocError, Global};
-use x12_envelopes::{Moment, Party};
-use x12_hub::{Hub, HubRecords};
+use x12_envelopes::Moment;
+use x12_hub::{Hub, HubLoaded, HubRecords};
 use x12_spool::{Depositor, HubAt, put_offers, run_turn};
 
 /// The words of the command.
@@ -93,8 +94,13 @@ impl<'a> RunWords<'a> {
 struct HubTurns<'a, H: HubRecords> {
     node: HubAt<H>,
     mailboxes: Vec<(Depositor, u16)>,
+    /// The nodes at which something may wait.
+    nodes: Vec<u16>,
     dir: &'a str,
 }
+
+/// How many files of a mailbox a turn takes at most: then it is the next party's.
+const MOST_FILES: usize = 1000;
 
 /// Turns to the mailbox of a party or of another hub, and gives its folders.
 fn turn_to<'a, H: HubRecords>(
@@ -112,7 +118,9 @@ fn turn_to<'a, H: HubRecords>(
     };
     let alloc = rt.alloc();
     let folder = below(alloc, dir, party_name(alloc, &party)?.as_str())?;
-    Ok(files_in(rt, folder.as_str(), "in", "out", names)?)
+    let mut files = files_in(rt, folder.as_str(), "in", "out", names)?;
+    files.most = MOST_FILES;
+    Ok(files)
 }
 
 /// Takes what came from each party, and from each hub.
@@ -147,15 +155,17 @@ fn put_for_each<H: HubRecords>(
     Ok(done)
 }
 
-/// Takes what came from each, then puts what waits for each.
+/// Takes what came from each, then puts what waits for each, and counts the items.
 fn take_and_put<H: HubRecords>(
     rt: &HostRuntime,
     node: &mut HubAt<H>,
     dir: &str,
     mailboxes: &[(Depositor, u16)],
+    nodes: &[u16],
 ) -> Result<bool, Stop> {
     let took = take_from_each(rt, node, dir, mailboxes)?;
     let put = put_for_each(rt, node, dir, mailboxes)?;
+    count_hub(rt, dir, &node.hub, nodes)?;
     Ok(took & put)
 }
 
@@ -164,13 +174,15 @@ impl<'a, H: HubRecords> Turns for HubTurns<'a, H> {
         let HubTurns {
             mut node,
             mailboxes,
+            nodes,
             dir,
         } = self;
         node.at = *at;
-        let done = take_and_put(rt, &mut node, dir, &mailboxes);
+        let done = take_and_put(rt, &mut node, dir, &mailboxes, &nodes);
         let turns = HubTurns {
             node,
             mailboxes,
+            nodes,
             dir,
         };
         (turns, done)
@@ -185,15 +197,12 @@ impl<'a, H: HubRecords> Turns for HubTurns<'a, H> {
     }
 }
 
-/// The hub, and who has which mailbox.
-fn with_mailboxes<H: HubRecords>(
+/// A hub, and what it has in memory of its records.
+fn with_loaded<H: HubRecords + Drop>(
     rt: &HostRuntime,
     dir: &str,
     hub: Hub<H>,
-) -> Result<(Hub<H>, Vec<(Party, u16)>), Stop>
-where
-    H: Drop,
-{
+) -> Result<(Hub<H>, HubLoaded), Stop> {
     let me = hub.party();
     let mut records = hub.close();
     let loaded = match records.load() {
@@ -201,9 +210,37 @@ where
         Err(fault) => return Err(hub_trouble(rt, dir, fault.into())),
     };
     match Hub::open(rt.alloc(), me, records) {
-        Ok(hub) => Ok((hub, loaded.directory)),
+        Ok(hub) => Ok((hub, loaded)),
         Err((_, fault)) => Err(hub_trouble(rt, dir, fault)),
     }
+}
+
+/// The mailboxes of a hub, and the nodes at which something may wait.
+fn places_of(
+    rt: &HostRuntime,
+    dir: &str,
+    loaded: &HubLoaded,
+) -> Result<(Vec<(Depositor, u16)>, Vec<u16>), Stop> {
+    let mailboxes = mailboxes_of(rt, dir, &loaded.directory)?;
+    Ok((mailboxes, nodes_of(rt.alloc(), loaded)?))
+}
+
+/// The hub that took turns.
+fn hub_of<H: HubRecords>(turns: HubTurns<'_, H>) -> Hub<H> {
+    let HubTurns {
+        node,
+        mailboxes: _,
+        nodes: _,
+        dir: _,
+    } = turns;
+    let HubAt {
+        alloc: _,
+        hub,
+        at: _,
+        depositor: _,
+        node: _,
+    } = node;
+    hub
 }
 
 /// The turns of a hub.
@@ -215,9 +252,9 @@ fn run_hub<H: HubRecords + Drop>(
     hub: Hub<H>,
 ) -> Result<u8, Stop> {
     let party = hub.party();
-    let (hub, directory) = with_mailboxes(rt, words.dir, hub)?;
-    let mailboxes = match mailboxes_of(rt, words.dir, &directory) {
-        Ok(mailboxes) => mailboxes,
+    let (hub, loaded) = with_loaded(rt, words.dir, hub)?;
+    let (mailboxes, nodes) = match places_of(rt, words.dir, &loaded) {
+        Ok(places) => places,
         Err(stop) => {
             drop(hub.close());
             return Err(stop);
@@ -233,22 +270,11 @@ fn run_hub<H: HubRecords + Drop>(
     let turns = HubTurns {
         node,
         mailboxes,
+        nodes,
         dir: words.dir,
     };
     let (turns, done) = take_turns(rt, turns, words, pace, at);
-    let HubTurns {
-        node,
-        mailboxes: _,
-        dir: _,
-    } = turns;
-    let HubAt {
-        alloc: _,
-        hub,
-        at: _,
-        depositor: _,
-        node: _,
-    } = node;
-    drop(hub.close());
+    drop(hub_of(turns).close());
     done
 }
 

@@ -1,17 +1,20 @@
 //! The turns of a station: what lies in `submit` is submitted, what came is taken, what was accepted is
 //! handed over, and what isn't answered is sent again.
 
+use crate::counts::count_station;
 use crate::files::{Files, files_in};
 use crate::folder::make;
 use crate::handing::{Posted, hand_over_all, posted_over};
 use crate::naming::Names;
 use crate::opening::OpensRecords;
 use crate::running::RunWords;
-use crate::say::{say, text_of};
+use crate::say::{say, tell, text_of};
 use crate::stop::Stop;
 use crate::turns::{Pace, Turns, is_done, take_turns};
+use crate::unsent::{forget_unsent, is_unsent};
 use std::alloc::{AllocError, Global};
 use x12_envelopes::Moment;
+use x12_outbound::Counts;
 use x12_spool::{StationAt, put_offers, run_turn, submit_turn};
 use x12_station::{Records, Station};
 
@@ -44,16 +47,41 @@ fn say_settled(rt: &HostRuntime, dir: &str, before: u64, after: u64) -> Result<(
     say(rt, &[dir, ": settled ", settled.as_str()])
 }
 
+/// How many answers are to nothing that a station submitted, or contradict earlier ones.
+fn unexpected(counts: &Counts) -> u64 {
+    counts.unmatched.saturating_add(counts.conflicting)
+}
+
+/// Says how many answers were unexpected.
+fn say_unexpected(rt: &HostRuntime, dir: &str, before: u64, after: u64) -> Result<(), Stop> {
+    let unexpected = after.saturating_sub(before);
+    if unexpected == 0 {
+        return Ok(());
+    }
+    let unexpected = text_of(rt.alloc(), unexpected)?;
+    tell(
+        rt,
+        &[
+            dir,
+            ": unexpected answers: ",
+            unexpected.as_str(),
+            ", to no set that it submitted or against an earlier answer: another station may run under its name",
+        ],
+    )
+}
+
 /// Takes what came, and says what it settled.
 fn take_waiting<R: Records>(
     rt: &HostRuntime,
     node: &mut StationAt<R>,
     folders: &mut Folders<'_>,
 ) -> Result<bool, Stop> {
-    let before = node.station.counts().settled;
+    let before = node.station.counts();
     let took = run_turn(rt.alloc(), node, &mut folders.files);
     let done = is_done(rt, folders.dir, took)? & !folders.files.is_troubled;
-    say_settled(rt, folders.dir, before, node.station.counts().settled)?;
+    let after = node.station.counts();
+    say_settled(rt, folders.dir, before.settled, after.settled)?;
+    say_unexpected(rt, folders.dir, unexpected(&before), unexpected(&after))?;
     Ok(done)
 }
 
@@ -74,7 +102,7 @@ fn take_and_put<R: Records>(
     Ok(is_done(rt, folders.dir, put)? & took & handed)
 }
 
-/// The rest of a turn, behind what was submitted.
+/// The rest of a turn, behind what was submitted; in the end it is counted what the records have.
 fn go_on<R: Records>(
     rt: &HostRuntime,
     node: &mut StationAt<R>,
@@ -83,7 +111,9 @@ fn go_on<R: Records>(
     tick: Option<u64>,
 ) -> Result<bool, Stop> {
     let submitted = submitted? & !folders.submit.is_troubled;
-    Ok(take_and_put(rt, node, folders, tick)? & submitted)
+    let done = take_and_put(rt, node, folders, tick)?;
+    count_station(rt, folders.dir, &mut node.station)?;
+    Ok(done & submitted)
 }
 
 impl<'a, R: Records> Turns for StationTurns<'a, R> {
@@ -120,6 +150,33 @@ fn folders_of<'a, R: Records>(
     })
 }
 
+/// The words, which ask to send again also where orders may not have been put.
+fn with_unsent<'a>(rt: &HostRuntime, words: &RunWords<'a>) -> Result<RunWords<'a>, Stop> {
+    let mut words = *words;
+    words.resend |= is_unsent(rt, words.dir)?;
+    Ok(words)
+}
+
+/// The words and the folders with which turns begin.
+fn begun<'a, R: Records>(
+    rt: &'a HostRuntime,
+    words: &RunWords<'a>,
+    station: &mut Station<R>,
+) -> Result<(RunWords<'a>, Folders<'a>), Stop> {
+    let words = with_unsent(rt, words)?;
+    let folders = folders_of(rt, words.dir, station, words.handed)?;
+    Ok((words, folders))
+}
+
+/// Forgets that orders may not have been put, once turns have ended well.
+fn ended(rt: &HostRuntime, dir: &str, done: Result<u8, Stop>) -> Result<u8, Stop> {
+    let status = done?;
+    if status == 0 {
+        forget_unsent(rt, dir)?;
+    }
+    Ok(status)
+}
+
 /// The turns of a station.
 pub(crate) fn run_station<O: OpensRecords>(
     rt: &HostRuntime,
@@ -130,8 +187,8 @@ pub(crate) fn run_station<O: OpensRecords>(
     station: Station<O::Station>,
 ) -> Result<u8, Stop> {
     let mut station = station;
-    let folders = match folders_of(rt, words.dir, &mut station, words.handed) {
-        Ok(folders) => folders,
+    let (words, folders) = match begun(rt, words, &mut station) {
+        Ok(begun) => begun,
         Err(stop) => {
             drop(station.close());
             return Err(stop);
@@ -140,13 +197,14 @@ pub(crate) fn run_station<O: OpensRecords>(
     let alloc = rt.alloc();
     let at = *at;
     let node = StationAt { alloc, station, at };
-    let (turns, done) = take_turns(rt, StationTurns { node, folders }, words, pace, &at);
+    let (turns, done) = take_turns(rt, StationTurns { node, folders }, &words, pace, &at);
     let StationTurns { node, folders: _ } = turns;
     let StationAt {
         alloc: _,
         station,
         at: _,
     } = node;
+    let done = ended(rt, words.dir, done);
     drop(station.close());
     done
 }

@@ -2,21 +2,24 @@
 
 use crate::agreeing::station_trouble;
 use crate::clock::moment;
-use crate::files::{Files, files_in};
+use crate::counts::count_station;
+use crate::files::{Files, files_in, told};
+use crate::folder::stands;
 use crate::naming::Names;
 use crate::opening::{OpensRecords, open_a_station};
 use crate::options::{DIR, NOW, STATUSES, text};
 use crate::reason::{node_text, reason_text};
-use crate::say::{misuse, refusal, text_of, trouble, trouble_at};
+use crate::say::{misuse, refusal, tell, text_of, trouble, trouble_at};
 use crate::stop::Stop;
 use crate::taking::bytes_of;
+use crate::unsent::{forget_unsent, is_unsent, note_unsent};
 use crate::words::wanted_party;
 use clap::ArgMatches;
 use command_table::{Kind, Row, Word};
 use std::alloc::{AllocError, Global};
 use x12_envelopes::{Moment, Party, split_transmission};
 use x12_spool::{Answer, Node, Spool, Submitting};
-use x12_station::{Body, Records, Station};
+use x12_station::{Body, Records, Station, StationFault};
 
 /// The words of the command.
 static WORDS: [Word; 5] = [
@@ -37,7 +40,7 @@ static WORDS: [Word; 5] = [
         kind: Kind::Values,
         name: "order",
         value: "TEXT",
-        help: "The number of an order (BEG03), in place of files",
+        help: "The number of an order (BEG03) of 10 pieces at 5, in place of files",
     },
     NOW,
 ];
@@ -97,6 +100,38 @@ fn orders(alloc: Global, numbers: &[&str], at: &Moment) -> Result<Vec<Body>, All
     Ok(orders)
 }
 
+/// What became of orders.
+#[derive(Drop)]
+enum Ordered {
+    /// Their interchange was submitted and put.
+    Put,
+    /// It was submitted, and couldn't be put.
+    Unsent,
+    /// They were refused: nothing was submitted.
+    Refused(Stop),
+}
+
+/// Puts an interchange of orders that is submitted; where that fails, the next run does it.
+fn put_ordered(
+    rt: &HostRuntime,
+    files: &mut Files<'_>,
+    dir: &str,
+    bytes: &[u8],
+) -> Result<Ordered, Stop> {
+    if files.send(bytes).is_ok() {
+        return Ok(Ordered::Put);
+    }
+    let what = told(rt.alloc(), bytes)?;
+    let parts = [
+        dir,
+        ": ",
+        what.as_str(),
+        " is submitted, and the next van run puts it",
+    ];
+    tell(rt, &parts)?;
+    Ok(Ordered::Unsent)
+}
+
 /// Submits orders, and puts their interchange.
 fn submit_orders<R: Records>(
     rt: &HostRuntime,
@@ -105,15 +140,55 @@ fn submit_orders<R: Records>(
     words: &SubmitWords<'_, '_>,
     to: Party,
     at: &Moment,
-) -> Result<u8, Stop> {
+) -> Result<Ordered, Stop> {
     let orders = orders(rt.alloc(), words.orders.unwrap_or(&[]), at)?;
     match station.submit_orders(to, at, &orders) {
-        Ok(sent) => {
-            files.send(&sent.bytes)?;
-            Ok(0)
-        }
-        Err(fault) => Err(station_trouble(rt, words.dir, fault)),
+        Ok(sent) => put_ordered(rt, files, words.dir, &sent.bytes),
+        // they may be submitted
+        Err(StationFault::Store) => Err(station_trouble(rt, words.dir, StationFault::Store)),
+        Err(fault) => Ok(Ordered::Refused(station_trouble(rt, words.dir, fault))),
     }
+}
+
+/// Submits orders under the note that they may not be put, which goes once they are, or are refused.
+fn submit_noted<R: Records>(
+    rt: &HostRuntime,
+    station: &mut Station<R>,
+    files: &mut Files<'_>,
+    words: &SubmitWords<'_, '_>,
+    to: Party,
+    at: &Moment,
+) -> Result<u8, Stop> {
+    let were_unsent = is_unsent(rt, words.dir)?;
+    note_unsent(rt, words.dir)?;
+    let ordered = submit_orders(rt, station, files, words, to, at)?;
+    if let Ordered::Unsent = ordered {
+        return Ok(1);
+    }
+    if !were_unsent {
+        forget_unsent(rt, words.dir)?;
+    }
+    match ordered {
+        Ordered::Refused(stop) => Err(stop),
+        _ => Ok(0),
+    }
+}
+
+/// Refuses the text of an order that names a file: it stands behind `--order` by mistake.
+fn test_orders(rt: &HostRuntime, texts: &[&str]) -> Result<(), Stop> {
+    for text in texts {
+        if stands(rt, text)? {
+            return Err(misuse(
+                rt,
+                &[
+                    "--order: ",
+                    text,
+                    " is a file, and no order's number: name files without --to and --order",
+                ],
+            ));
+        }
+    }
+    Ok(())
 }
 
 /// Says at which interchange of a file something was wrong.
@@ -199,11 +274,14 @@ fn submit_texts<O: OpensRecords>(
     to: &str,
 ) -> Result<u8, Stop> {
     let to = wanted_party(rt, "--to", to)?;
+    test_orders(rt, words.orders.unwrap_or(&[]))?;
     let at = moment(rt, words.now)?;
     let mut files = files_in(rt, words.dir, "submit", "out", Names::Plain)?;
     let mut station = open_a_station(rt, opens, words.dir)?;
-    let done = submit_orders(rt, &mut station, &mut files, words, to, &at);
+    let done = submit_noted(rt, &mut station, &mut files, words, to, &at);
+    let counted = count_station(rt, words.dir, &mut station);
     drop(station.close());
+    counted?;
     done
 }
 
@@ -220,8 +298,10 @@ fn submit_named<O: OpensRecords>(
         station,
     };
     let done = submit_files(rt, &mut node, &mut files, words.files.unwrap_or(&[]));
+    let counted = count_station(rt, words.dir, &mut node.station);
     let Submitting { alloc: _, station } = node;
     drop(station.close());
+    counted?;
     done
 }
 
