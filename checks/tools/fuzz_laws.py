@@ -1,15 +1,19 @@
 """What must hold of whatever van and vanlab write of an input: laws that are computed, without an expected value."""
+import csv
+import io
 import json
 import os
+import re
 import resource
 import subprocess
+
+from laws_of_replies import ANSWER
 
 TOP = os.path.dirname(os.path.dirname(os.path.dirname(os.path.realpath(__file__))))
 PROGRAMS = {name: f"{TOP}/crates/{name}/out/{name}" for name in ("van", "vanlab")}
 SECONDS, ROOM = 20, 1 << 30
 # Whether a set is accepted, and whether with errors noted, by its code (AK501)
 FARES = {"A": (True, False), "E": (True, True), "R": (False, False)}
-ANSWER = ["answer", "--me", "ZZBETA", "--icn", "1", "--gcn", "1", "--date", "20250102", "--time", "0931", "PO850"]
 
 
 class Broken(Exception):
@@ -29,27 +33,61 @@ def ran(name, words, given=b""):
     return it.stdout
 
 
+def members_of_page():
+    """The types of each member of JSON, as the table of docs/van.md has them: {member: {type, ..}}."""
+    with open(f"{TOP}/docs/van.md", encoding="utf-8") as file:
+        rows = [it.split("|") for it in file if re.match(r"\| `\w+`.*\| (number|text|object|list|truth|null)", it)]
+    return {name: set(row[2].strip().split(" or ")) for row in rows for name in re.findall(r"`(\w+)`", row[1])}
+
+
+MEMBERS = members_of_page()
+
+
+def try_scheme(value, name=None):
+    """A value of JSON has the members and types that the page says."""
+    if name is not None:
+        kind = {bool: "truth", int: "number", str: "text", dict: "object", list: "list", type(None): "null"}[type(value)]
+        if kind not in MEMBERS.get(name, ()):
+            raise Broken(f"the member {name} is a {kind}, and docs/van.md has it as {MEMBERS.get(name)}")
+    for key, held in value.items() if isinstance(value, dict) else ():
+        try_scheme(held, key)
+    for held in value if isinstance(value, list) else ():
+        try_scheme(held)
+
+
 def objects(name, words, given=b""):
-    return [json.loads(line) for line in ran(name, words, given).split(b"\n") if line]
+    """The objects of interchanges that a program writes, one a line; all it writes is by the scheme of the page."""
+    found = [json.loads(line) for line in ran(name, words, given).split(b"\n") if line]
+    for it in found:
+        try_scheme(it)
+    return [it for it in found if "error" not in it]
+
+
+def try_csv(path):
+    """CSV by RFC 4180: each line ends with CR LF and has the columns of the first."""
+    text = ran("van", ["check", "--csv", path]).decode("utf-8")
+    rows = list(csv.reader(io.StringIO(text, newline=""), strict=True))
+    if text.count("\n") != text.count("\r\n") or text.count("\n") != len(rows) or {len(it) for it in rows} != {20}:
+        raise Broken("the CSV isn't by RFC 4180")
 
 
 def wanted_of(found):
     """What a reply must say of an interchange as `check` found it: a refusal's note, or each group's sets."""
     if found.get("refused"):
         return found["refused"]["code"]
-    return [it["refused"]["code"] if it["refused"] else [(of["type"], of["number"], (of["accepted"], of["noted"]),
+    return [it["refused"]["code"] if it["refused"] else [(of["type"], of["set_number"], (of["accepted"], of["noted"]),
             [code["code"] for code in of["codes"]]) for of in it["sets"]] for it in found.get("groups", [])]
 
 
 def said_of(reply):
     """What a reply says, in the same form, as `explain` reads it."""
-    tas = [it for it in reply["answers"] if it["answers"] == "interchange"]
-    groups = [it for it in reply["answers"] if it["answers"] == "group"]
+    tas = [it for it in reply["answers"] if it["about"] == "interchange"]
+    groups = [it for it in reply["answers"] if it["about"] == "group"]
     if len(tas) + len(groups) != len(reply["answers"]) or len(tas) > 1:
         raise Broken("the reply has what is neither a TA1 nor a 997 that can be read")
     if tas and tas[0]["fares"]["code"] != "A":
         return tas[0]["note"]["code"]
-    return [it["codes"][0]["code"] if it["codes"] else [(of["type"], of["number"], FARES[of["fares"]["code"]],
+    return [it["codes"][0]["code"] if it["codes"] else [(of["type"], of["set_number"], FARES[of["fares"]["code"]],
             [code["code"] for code in of["codes"]]) for of in it["sets"]] for it in groups]
 
 
@@ -74,9 +112,9 @@ def closes_its_sets(path, folder, found, count, reply):
     with open(f"{folder}/reply.edi", "wb") as file:
         file.write(reply)
     told = objects("van", ["explain", "--json", "--of", path, f"{folder}/reply.edi"])
-    closed = [(of["type"], of["number"], of["closes"]) for it in told if "answers" in it
+    closed = [(of["type"], of["set_number"], of["closes"]) for it in told if "answers" in it
               for answer in it["answers"] for of in answer["speaks_of"]]
-    sets = [(of["type"], of["number"], "noted" if of["noted"] else "accepted")
+    sets = [(of["type"], of["set_number"], "noted" if of["noted"] else "accepted")
             for it in found.get("groups", []) for of in it["sets"] if of["accepted"]]
     if any(it.get("pending") for it in told):
         raise Broken("the reply leaves a set pending")
@@ -95,12 +133,15 @@ def try_transmission(path, folder):
     agree(found, objects("van", ["explain", "--json"], replies))
     sent = objects("van", ["check", "--json", "--as-sender", "--me", "ZZALPHA", path])
     if len(sent) == 1 and sent[0]["accepted"] and found[0].get("receiver") == "ZZ/BETA" and replies:
-        closes_its_sets(path, folder, found[0], sent[0]["sets"], replies)
+        closes_its_sets(path, folder, found[0], sent[0]["sets_included"], replies)
     plain = ran("van", ["show", "--plain", path])
     can_be_read = all("number" in it for it in found)
     if can_be_read and not set(b"\r\n") & set(text) and ran("van", ["show", "--join"], plain) != text:
         raise Broken("show --plain and show --join don't give the bytes back")
-    for words in (["show", "--json", path], ["show", path], ["explain", path], ["check", "--me", "ZZBETA", "PO850", path]):
+    try_csv(path)
+    objects("van", ["show", "--json", path])
+    objects("van", ["check", "--json", path])
+    for words in (["show", path], ["explain", path], ["check", "--me", "ZZBETA", "PO850", path]):
         ran("van", words)
 
 

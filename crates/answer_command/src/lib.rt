@@ -4,6 +4,7 @@
 
 use clap::ArgMatches;
 use command_table::{Fault, Kind, Row, Word};
+use std::alloc::{AllocError, Global};
 use std::fmt::Display;
 use std::process::ExitCode;
 use x12_answering::{OptionFault, OptionWords, Options, RunStatus, read_options, run_answer};
@@ -35,8 +36,8 @@ static WORDS: [Word; 7] = [
     Word {
         kind: Kind::Wanted,
         name: "me",
-        value: "QQID",
-        help: "Who answers: the qualifier, then the identifier, as ZZBETA",
+        value: "PARTY",
+        help: "Who answers: qualifier and identifier, as ZZ/BETA or ZZBETA",
     },
     Word {
         kind: Kind::Wanted,
@@ -108,10 +109,24 @@ fn answer(rt: &HostRuntime, options: &Options) -> Result<ExitCode, Fault> {
     }
 }
 
+/// A party without the slash between qualifier and identifier, as `ZZBETA` of `ZZ/BETA`.
+fn without_slash(alloc: Global, word: &str) -> Result<String, AllocError> {
+    let mut party = String::new(alloc);
+    match word.split_once('/') {
+        Some((qualifier, identifier)) if qualifier.len() == 2 => {
+            party.push_str(qualifier)?;
+            party.push_str(identifier)?;
+        }
+        _ => party.push_str(word)?,
+    }
+    Ok(party)
+}
+
 /// Runs the command, and gives its exit status. It is a fault where standard error takes no sentence.
 pub fn run(rt: &HostRuntime, found: &ArgMatches<'_>) -> Result<ExitCode, Fault> {
+    let me = without_slash(rt.alloc(), found.get_str("me").unwrap_or(""))?;
     let words = OptionWords {
-        me: found.get_str("me").unwrap_or(""),
+        me: me.as_str(),
         icn: found.get_str("icn").unwrap_or(""),
         gcn: found.get_str("gcn").unwrap_or(""),
         date: found.get_str("date").unwrap_or(""),

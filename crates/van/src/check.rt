@@ -1,50 +1,71 @@
 //! `van check`: what is wrong with each interchange of a file.
 
+use crate::clashes::{self, Clash};
 use crate::{color, files, parties};
 use anyhow::Result;
 use clap::ArgMatches;
 use command_table::{Kind, Row, Word};
-use std::alloc::{AllocError, Global};
+use std::alloc::Global;
+use std::fs;
 use std::process::ExitCode;
-use x12_answering::read_pair;
+use x12_answering::{RunFault, read_pair};
+use x12_envelopes::{Party, read_header, split_transmission};
 use x12_inspect::{CSV_HEAD, CheckTerms, Form, Outcome, Style, run_check, run_check_as_sender};
 
 const ABOUT: &str =
     "Says what is wrong with each interchange of a file, as its receiver would find it.";
 
 const MORE: &str = "\
+Without --me the receiver of each interchange checks it; where no pair is named, he
+takes the sets that stand in it. Sets are judged by their structure, and an 850
+also by BEG, by CTT01 and by whether it has a PO1: no more is looked at. With
+several files the last line says how many are wrong.
+
 Example:
-  van check --me ZZBETA PO850 < samples/order.edi
+  van check samples/order.edi
 says
-  interchange 1, 000000001, ZZ/ALPHA to ZZ/BETA: 1 of 1 sets accepted
-  van check --as-sender --me ZZALPHA samples/order.edi
+  interchange 1, 000000001, ZZ/ALPHA to ZZ/BETA: 1 of 1 sets accepted (structure; 850: BEG, CTT01, a PO1)
+    as its receiver ZZ/BETA, who takes the sets in it: PO850
+  van check --as-sender samples/order.edi
 says
   interchange 1, 000000001, ZZ/ALPHA to ZZ/BETA: may be submitted, with 1 sets
 
 Exit status:
   0  every interchange is accepted with all its sets, or may be submitted
-  1  something isn't, or an input can't be read
-  2  the command line is wrong";
+  1  something isn't, no interchange stands in an input, or it can't be read
+  2  the command line is wrong, or has options that don't go together";
 
 /// The words of the subcommand.
-static WORDS: [Word; 7] = [
+static WORDS: [Word; 9] = [
     Word {
-        kind: Kind::Wanted,
+        kind: Kind::Value,
         name: "me",
-        value: "QQID",
-        help: "Who receives, or with --as-sender sends: the qualifier, then the identifier, as ZZBETA",
+        value: "PARTY",
+        help: "Who receives, or with --as-sender sends: qualifier and identifier, as ZZ/BETA or ZZBETA",
     },
     Word {
         kind: Kind::Flag,
         name: "as-sender",
         value: "",
-        help: "Says instead what the station --me would refuse to submit",
+        help: "Says instead what a station would refuse to submit: --me, or the first sender in the file",
     },
     Word {
         kind: Kind::Flag,
         name: "lenient",
         value: "",
         help: "Accepts sets whose only errors are in elements, with these noted",
+    },
+    Word {
+        kind: Kind::Flag,
+        name: "recursive",
+        value: "",
+        help: "Goes into folders, but for names with a dot in front; -r for short",
+    },
+    Word {
+        kind: Kind::Flag,
+        name: "quiet",
+        value: "",
+        help: "Says only what is wrong, with the file's name in front; -q for short",
     },
     files::JSON,
     Word {
@@ -58,7 +79,7 @@ static WORDS: [Word; 7] = [
         kind: Kind::Many,
         name: "words",
         value: "PAIR|FILE",
-        help: "Five capitals or digits, as PO850, are GS01 and ST01 of what is taken; all else is a file, - standard input",
+        help: "Five capitals or digits that name no file, as PO850, are GS01 and ST01 of what is taken; all else is a file, - standard input",
     },
 ];
 
@@ -72,50 +93,114 @@ pub(crate) fn row() -> Row {
     }
 }
 
-/// The words that are no pairs.
-fn files_of<'a>(alloc: Global, words: &[&'a str]) -> Result<Vec<&'a str>, AllocError> {
-    let mut files = Vec::new(alloc);
-    for word in words {
-        if read_pair(word.as_bytes()).is_none() {
-            files.push(*word)?;
+/// The words behind the options: what is taken, and what is read.
+#[derive(Drop)]
+struct Words<'a> {
+    pairs: Vec<([u8; 2], [u8; 3])>,
+    files: Vec<&'a str>,
+}
+
+/// The pair that a word is: a word that names a file is that file.
+fn pair_of(rt: &HostRuntime, word: &str) -> Option<([u8; 2], [u8; 3])> {
+    let pair = read_pair(word.as_bytes())?;
+    match fs::exists(rt, word) {
+        Ok(false) => Some(pair),
+        _ => None,
+    }
+}
+
+/// The words behind the options.
+fn words_of<'a>(rt: &HostRuntime, found: &[&'a str]) -> Result<Words<'a>> {
+    let mut pairs = Vec::new(rt.alloc());
+    let mut files = Vec::new(rt.alloc());
+    for word in found {
+        match pair_of(rt, word) {
+            Some(pair) => pairs.push(pair)?,
+            None => files.push(*word)?,
         }
     }
-    Ok(files)
+    Ok(Words { pairs, files })
+}
+
+/// How inputs are checked.
+#[derive(Clone, Copy)]
+struct How<'a> {
+    terms: &'a CheckTerms,
+    as_sender: bool,
+    goes_below: bool,
+}
+
+/// A party that no interchange names.
+const NOBODY: Party = Party {
+    qualifier: [0; 2],
+    id: [0; 15],
+};
+
+/// The sender of the first interchange that has a header.
+fn first_sender(alloc: Global, input: &[u8]) -> Result<Party, RunFault> {
+    for bytes in split_transmission(alloc, input)? {
+        if let Ok(header) = read_header(bytes) {
+            return Ok(header.sender);
+        }
+    }
+    Ok(NOBODY)
+}
+
+/// Checks an input as its sender.
+fn check_sent(
+    rt: &HostRuntime,
+    me: Option<Party>,
+    style: &Style<'_>,
+    input: &[u8],
+) -> Result<Outcome, RunFault> {
+    let me = match me {
+        Some(me) => me,
+        None => first_sender(rt.alloc(), input)?,
+    };
+    run_check_as_sender(rt.alloc(), &me, style, input, &mut rt.stdout())
 }
 
 /// Checks one input, and writes what is wrong with it.
-fn check(
-    rt: &HostRuntime,
-    terms: &CheckTerms,
-    as_sender: bool,
-    style: &Style<'_>,
-) -> Result<Outcome> {
-    let Some(input) = files::read(rt, style.file)? else {
+fn check(rt: &HostRuntime, how: &How<'_>, style: &Style<'_>) -> Result<Outcome> {
+    let Some(input) = files::read(rt, style)? else {
         return Ok(Outcome::SomethingWrong);
     };
-    let told = if as_sender {
-        run_check_as_sender(rt.alloc(), &terms.me, style, &input, &mut rt.stdout())
+    let told = if how.as_sender {
+        check_sent(rt, how.terms.me, style, &input)
     } else {
-        run_check(rt.alloc(), terms, style, &input, &mut rt.stdout())
+        run_check(rt.alloc(), how.terms, style, &input, &mut rt.stdout())
     };
-    files::told(rt, style.file, told)
+    files::told(rt, style, told)
+}
+
+/// Says how many of several files are wrong.
+fn sum_up(rt: &HostRuntime, form: Form, wrong: usize, files: usize) -> Result<()> {
+    if form == Form::Text && files > 1 {
+        println!(rt; "{wrong} of {files} files wrong")?;
+    }
+    Ok(())
 }
 
 /// Checks each input.
 fn check_all(
     rt: &HostRuntime,
-    terms: &CheckTerms,
-    as_sender: bool,
+    how: &How<'_>,
     style: &Style<'_>,
     words: &[&str],
 ) -> Result<Outcome> {
-    let named = files::named(rt.alloc(), words)?;
-    let mut outcome = Outcome::AllRight;
-    for file in &named {
-        files::head(rt, style.form, &named, file)?;
-        let style = Style { file, ..*style };
-        outcome = files::both(outcome, check(rt, terms, as_sender, &style)?);
+    let named = files::find_files(rt, words, how.goes_below)?;
+    let mut outcome = named.outcome;
+    let mut wrong = 0usize;
+    for file in &named.files {
+        let file = file.as_str();
+        if !style.is_quiet {
+            files::head(rt, style.form, &named.files, file)?;
+        }
+        let one = check(rt, how, &Style { file, ..*style })?;
+        wrong = wrong.saturating_add(usize::from(one != Outcome::AllRight));
+        outcome = files::both(outcome, one);
     }
+    sum_up(rt, style.form, wrong, named.files.len())?;
     Ok(outcome)
 }
 
@@ -124,29 +209,75 @@ fn begin(rt: &HostRuntime, found: &ArgMatches<'_>) -> Result<Form> {
     if !found.get_flag("csv") {
         return Ok(files::form(found));
     }
-    println!(rt; "{CSV_HEAD}")?;
+    print!(rt; "{CSV_HEAD}")?;
     Ok(Form::Csv)
 }
 
-/// Runs the subcommand, and gives its exit status.
-pub fn run(rt: &HostRuntime, found: &ArgMatches<'_>) -> Result<ExitCode> {
-    let alloc = rt.alloc();
-    let words = found.get_strs("words").unwrap_or(&[]);
-    let Some(me) = parties::read_party(found.get_str("me").unwrap_or("")) else {
-        return parties::refuse(rt, "--me", "ZZBETA");
-    };
+/// What doesn't go together.
+fn clashes_in(found: &ArgMatches<'_>, words: &Words<'_>) -> [Clash; 4] {
+    let as_sender = found.get_flag("as-sender");
+    let csv = found.get_flag("csv");
+    [
+        Clash {
+            both: csv && found.get_flag("json"),
+            one: "--csv",
+            other: "--json",
+        },
+        Clash {
+            both: csv && found.get_flag("quiet"),
+            one: "--csv",
+            other: "--quiet",
+        },
+        Clash {
+            both: as_sender && found.get_flag("lenient"),
+            one: "--as-sender",
+            other: "--lenient",
+        },
+        Clash {
+            both: as_sender && !words.pairs.is_empty(),
+            one: "--as-sender",
+            other: "a pair",
+        },
+    ]
+}
+
+/// Checks what the words name, as this party or as each receiver.
+fn run_as(
+    rt: &HostRuntime,
+    found: &ArgMatches<'_>,
+    me: Option<Party>,
+    words: Words<'_>,
+) -> Result<ExitCode> {
+    let Words { pairs, files } = words;
     let terms = CheckTerms {
         me,
         lenient: found.get_flag("lenient"),
-        pairs: parties::read_pairs(alloc, words)?,
+        pairs,
     };
-    let files = files_of(alloc, words)?;
-    let as_sender = found.get_flag("as-sender");
+    let how = How {
+        terms: &terms,
+        as_sender: found.get_flag("as-sender"),
+        goes_below: found.get_flag("recursive"),
+    };
     let style = Style {
         form: begin(rt, found)?,
         look: color::look(rt, found),
         file: "-",
+        is_quiet: found.get_flag("quiet"),
     };
-    let outcome = check_all(rt, &terms, as_sender, &style, &files)?;
-    Ok(files::status(outcome))
+    Ok(files::status(check_all(rt, &how, &style, &files)?))
+}
+
+/// Runs the subcommand, and gives its exit status.
+pub fn run(rt: &HostRuntime, found: &ArgMatches<'_>) -> Result<ExitCode> {
+    let named = found.get_str("me");
+    let me = named.and_then(parties::read_party);
+    if named.is_some() && me.is_none() {
+        return parties::refuse(rt, "--me", "BETA");
+    }
+    let words = words_of(rt, found.get_strs("words").unwrap_or(&[]))?;
+    if let Some(status) = clashes::refuse(rt, &clashes_in(found, &words))? {
+        return Ok(status);
+    }
+    run_as(rt, found, me, words)
 }

@@ -1,6 +1,7 @@
 //! `van explain`: what an acknowledgment says, or what a code means.
 
-use crate::{color, files, parties};
+use crate::clashes::{self, Clash};
+use crate::{codes, color, files, parties};
 use anyhow::Result;
 use clap::ArgMatches;
 use command_table::{Kind, Row, Word};
@@ -8,7 +9,6 @@ use std::process::ExitCode;
 use x12_envelopes::Party;
 use x12_inspect::{Outcome, Style, read_sent, run_explain, run_pending};
 use x12_sent::SentFile;
-use x12_words::{FAMILIES, Wording, find_wording, split_code, wordings};
 
 const ABOUT: &str = "Says in words what acknowledgments (TA1, 997) say, or what a code means.";
 
@@ -24,8 +24,9 @@ says beside each note what was sent there, and which sets it closes.
 
 Exit status:
   0  each interchange can be read
-  1  one can't, or an input can't be read, or what was sent couldn't be submitted
-  2  the command line is wrong, or the code is unknown";
+  1  one can't, no interchange stands in an input or it can't be read, or what was sent
+     couldn't be submitted
+  2  the command line is wrong, has options that don't go together, or the code is unknown";
 
 /// The words of the subcommand.
 static WORDS: [Word; 6] = [
@@ -33,7 +34,7 @@ static WORDS: [Word; 6] = [
         kind: Kind::Value,
         name: "code",
         value: "CODE",
-        help: "A code, as AK403/5, TA1/023, H2 or S11, or a family of codes, as AK403",
+        help: "A code, as AK403/5, TA105/023, H2 or S11, one without its family, as 5, or a family, as AK403",
     },
     Word {
         kind: Kind::Value,
@@ -44,8 +45,8 @@ static WORDS: [Word; 6] = [
     Word {
         kind: Kind::Value,
         name: "hub",
-        value: "QQID",
-        help: "With --of: a hub that may refuse the sender's interchanges too, as ZZHUB",
+        value: "PARTY",
+        help: "With --of: a hub that may refuse the sender's interchanges too, as ZZ/HUB or ZZHUB",
     },
     files::JSON,
     color::COLOR,
@@ -62,55 +63,6 @@ pub(crate) fn row() -> Row {
     }
 }
 
-/// Writes a code of a family, what it says, and what to do.
-fn print_wording(rt: &HostRuntime, family: &str, w: &Wording) -> Result<()> {
-    let front = if w.code().starts_with(family) {
-        ""
-    } else {
-        family
-    };
-    let slash = if front.is_empty() { "" } else { "/" };
-    println!(rt;
-        "{front}{slash}{}: {}\n  {}",
-        w.code(),
-        w.words(),
-        w.action()
-    )?;
-    Ok(())
-}
-
-/// Writes each code of a family, and answers how many there are.
-fn print_family(rt: &HostRuntime, family: &str) -> Result<usize> {
-    for w in wordings(family) {
-        print_wording(rt, family, w)?;
-    }
-    Ok(wordings(family).len())
-}
-
-/// Lists the families on standard error.
-fn list_families(rt: &HostRuntime, code: &str) -> Result<()> {
-    eprint!(rt; "error: unknown code {code}; the families are")?;
-    for family in FAMILIES {
-        eprint!(rt; " {family}")?;
-    }
-    eprintln!(rt; "; write FAMILY, FAMILY/CODE or, of H, N, O, S, B, V and L, the code alone")?;
-    Ok(())
-}
-
-/// Explains a code or a family.
-fn explain_code(rt: &HostRuntime, code: &str) -> Result<ExitCode> {
-    let (family, within) = split_code(code);
-    if let Some(w) = find_wording(family, within) {
-        print_wording(rt, family, w)?;
-        return Ok(ExitCode::SUCCESS);
-    }
-    if print_family(rt, code)? == 0 {
-        list_families(rt, code)?;
-        return Ok(ExitCode::from(2));
-    }
-    Ok(ExitCode::SUCCESS)
-}
-
 /// Explains one input, beside what was sent; `None` where the run stopped, as standard error says then,
 /// and what was sent is gone.
 fn explain(
@@ -118,16 +70,16 @@ fn explain(
     style: &Style<'_>,
     sent: &mut Option<SentFile<'_>>,
 ) -> Result<Option<Outcome>> {
-    let Some(input) = files::read(rt, style.file)? else {
+    let Some(input) = files::read(rt, style)? else {
         return Ok(Some(Outcome::SomethingWrong));
     };
     match run_explain(rt.alloc(), style, &input, sent.take(), &mut rt.stdout()) {
         Ok(explained) => {
             *sent = explained.sent;
-            Ok(Some(explained.outcome))
+            Ok(Some(files::told(rt, style, Ok(explained.outcome))?))
         }
         Err(fault) => {
-            files::told(rt, style.file, Err(fault))?;
+            files::told(rt, style, Err(fault))?;
             Ok(None)
         }
     }
@@ -140,10 +92,11 @@ fn explain_all(
     words: &[&str],
     sent: &mut Option<SentFile<'_>>,
 ) -> Result<Outcome> {
-    let named = files::named(rt.alloc(), words)?;
-    let mut outcome = Outcome::AllRight;
-    for file in &named {
-        files::head(rt, style.form, &named, file)?;
+    let named = files::find_files(rt, words, false)?;
+    let mut outcome = named.outcome;
+    for file in &named.files {
+        let file = file.as_str();
+        files::head(rt, style.form, &named.files, file)?;
         let Some(one) = explain(rt, &Style { file, ..*style }, sent)? else {
             return Ok(Outcome::SomethingWrong);
         };
@@ -161,7 +114,7 @@ fn tell_pending(
 ) -> Result<Outcome> {
     match run_pending(rt.alloc(), style, sent, &mut rt.stdout()) {
         Ok(()) => Ok(outcome),
-        Err(fault) => files::told(rt, style.file, Err(fault)),
+        Err(fault) => files::told(rt, style, Err(fault)),
     }
 }
 
@@ -175,7 +128,7 @@ fn explain_beside<'a>(
 ) -> Result<Outcome> {
     let (sent, right) = match read_sent(rt.alloc(), style, hub, input, &mut rt.stdout()) {
         Ok(read) => read,
-        Err(fault) => return files::told(rt, style.file, Err(fault)),
+        Err(fault) => return files::told(rt, style, Err(fault)),
     };
     let mut sent = Some(sent);
     let all = explain_all(rt, style, words, &mut sent)?;
@@ -193,7 +146,7 @@ fn explain_of(
     hub: Option<Party>,
     words: &[&str],
 ) -> Result<Outcome> {
-    let Some(input) = files::read(rt, style.file)? else {
+    let Some(input) = files::read(rt, style)? else {
         return Ok(Outcome::SomethingWrong);
     };
     let style = *style;
@@ -208,6 +161,7 @@ fn explain_files(rt: &HostRuntime, found: &ArgMatches<'_>, hub: Option<Party>) -
         form: files::form(found),
         look: color::look(rt, found),
         file: of.unwrap_or("-"),
+        is_quiet: false,
     };
     if of.is_some() {
         return explain_of(rt, &style, hub, words);
@@ -215,15 +169,46 @@ fn explain_files(rt: &HostRuntime, found: &ArgMatches<'_>, hub: Option<Party>) -
     explain_all(rt, &style, words, &mut None)
 }
 
+/// What doesn't go together.
+fn clashes_in(found: &ArgMatches<'_>) -> [Clash; 3] {
+    let code = found.get_str("code").is_some();
+    let of = found.get_str("of").is_some();
+    let has_files = !found.get_strs("files").unwrap_or(&[]).is_empty();
+    [
+        Clash {
+            both: code && has_files,
+            one: "--code",
+            other: "a file",
+        },
+        Clash {
+            both: code && of,
+            one: "--code",
+            other: "--of",
+        },
+        Clash {
+            both: code && found.get_flag("json"),
+            one: "--code",
+            other: "--json",
+        },
+    ]
+}
+
 /// Runs the subcommand, and gives its exit status.
 pub fn run(rt: &HostRuntime, found: &ArgMatches<'_>) -> Result<ExitCode> {
+    if let Some(status) = clashes::refuse(rt, &clashes_in(found))? {
+        return Ok(status);
+    }
     if let Some(code) = found.get_str("code") {
-        return explain_code(rt, code);
+        return codes::explain_code(rt, code);
     }
     let hub = found.get_str("hub");
+    if hub.is_some() && found.get_str("of").is_none() {
+        eprintln!(rt; "error: --hub wants --of, the file that was sent")?;
+        return Ok(ExitCode::from(2));
+    }
     let named = hub.and_then(parties::read_party);
     if hub.is_some() && named.is_none() {
-        return parties::refuse(rt, "--hub", "ZZHUB");
+        return parties::refuse(rt, "--hub", "HUB");
     }
     Ok(files::status(explain_files(rt, found, named)?))
 }

@@ -2,15 +2,18 @@
 
 ghost use Rattle.std.specs.Prelude.{◌≡◌, ◌≤◌, IfOk, IfSome, vec_len};
 
+use crate::folders;
 use anyhow::Result;
 use clap::ArgMatches;
 use command_table::{Kind, Word};
-use std::alloc::{AllocError, Global};
+use std::alloc::Global;
+use std::fmt::Display;
 use std::fs::File;
+use std::io;
 use std::io::Read;
 use std::process::ExitCode;
 use x12_answering::{RunFault, read_input};
-use x12_inspect::{Form, Outcome};
+use x12_inspect::{Form, Outcome, Style, run_unread, shown};
 
 /// The most bytes that an input may have.
 const MOST_BYTES: u64 = 16_777_216;
@@ -34,19 +37,38 @@ pub(crate) const JSON: Word = Word {
     help: "Writes one JSON object a line for each interchange",
 };
 
-/// The files named, or standard input where none is.
-pub fn named<'a>(alloc: Global, words: &[&'a str]) -> Result<Vec<&'a str>, AllocError> {
-    let mut files = Vec::from_slice(alloc, words)?;
-    if files.is_empty() {
-        files.push("-")?;
+/// The files that words name, and what was found on the way to them.
+#[derive(Drop)]
+pub struct Named {
+    /// The files.
+    pub files: Vec<String>,
+    /// Whether a folder couldn't be listed.
+    pub outcome: Outcome,
+}
+
+/// The files named, or standard input where none is; and where it is asked for, those below each folder.
+pub fn find_files(rt: &HostRuntime, words: &[&str], goes_below: bool) -> Result<Named> {
+    let mut files = Vec::new(rt.alloc());
+    let mut all = true;
+    for word in words {
+        if goes_below && folders::is_folder(rt, word) {
+            all &= folders::add_below(rt, word, &mut files)?;
+        } else {
+            files.push(String::from_str(rt.alloc(), word)?)?;
+        }
     }
-    Ok(files)
+    if words.is_empty() {
+        files.push(String::from_str(rt.alloc(), "-")?)?;
+    }
+    let outcome = Outcome::of(all);
+    Ok(Named { files, outcome })
 }
 
 /// Writes the name of a file, where several are named and the result is in words.
-pub fn head(rt: &HostRuntime, form: Form, files: &[&str], file: &str) -> Result<()> {
+pub fn head(rt: &HostRuntime, form: Form, files: &[String], file: &str) -> Result<()> {
     if form == Form::Text && files.len() > 1 {
-        println!(rt; "{file}:")?;
+        let name = shown(rt.alloc(), file)?;
+        println!(rt; "{name}:")?;
     }
     Ok(())
 }
@@ -69,25 +91,29 @@ fn read_whole<R: Read>(alloc: Global, reader: &mut R) -> Result<Vec<u8>, RunFaul
     read_input(alloc, reader, MOST_BYTES)
 }
 
-/// Says on standard error why an input can't be read: there is none.
-fn unread(rt: &HostRuntime, name: &str, why: &str) -> Result<Option<Vec<u8>>> {
+/// Says on standard error why an input can't be read, and in JSON or CSV on standard output too: there
+/// is none.
+fn unread<E: Display>(rt: &HostRuntime, style: &Style<'_>, why: &E) -> Result<Option<Vec<u8>>> {
+    let name = shown(rt.alloc(), style.file)?;
+    let why = format!(in rt.alloc(); "{why}")?;
     eprintln!(rt; "van: {name}: {why}")?;
+    run_unread(rt.alloc(), style, why.as_str(), &mut rt.stdout())?;
     Ok(None)
 }
 
+/// Why a compressed input isn't read.
+const COMPRESSED: &str = "it is compressed by gzip, which isn't read: unpack it, as by gunzip -c";
+
 /// An input that was read under this name, unless it couldn't be, or is compressed.
-fn taken(rt: &HostRuntime, name: &str, read: Result<Vec<u8>, RunFault>) -> Result<Option<Vec<u8>>> {
+fn taken(
+    rt: &HostRuntime,
+    style: &Style<'_>,
+    read: Result<Vec<u8>, RunFault>,
+) -> Result<Option<Vec<u8>>> {
     match read {
-        Ok(input) if input.starts_with(&GZIP) => unread(
-            rt,
-            name,
-            "it is compressed by gzip, which isn't read: unpack it, as by gunzip -c",
-        ),
+        Ok(input) if input.starts_with(&GZIP) => unread(rt, style, &COMPRESSED),
         Ok(input) => Ok(Some(input)),
-        Err(fault) => {
-            eprintln!(rt; "van: {name}: {fault}")?;
-            Ok(None)
-        }
+        Err(fault) => unread(rt, style, &fault),
     }
 }
 
@@ -99,28 +125,62 @@ fn is_folder(file: &File) -> bool {
     }
 }
 
+/// Says on standard error that a file can't be opened, and what the word may have meant.
+fn unopened(rt: &HostRuntime, style: &Style<'_>, error: &io::Error) -> Result<Option<Vec<u8>>> {
+    let name = style.file;
+    let may_be = if is_near_pair(name) {
+        "; a pair is five capital letters or digits, as PO850"
+    } else if name.contains('\u{FFFD}') {
+        "; its name isn't UTF-8, so rename it"
+    } else {
+        ""
+    };
+    let why = format!(in rt.alloc(); "it can't be opened: {error}{may_be}")?;
+    unread(rt, style, &why)
+}
+
+/// Whether a word that names no file may have been meant as a pair, as `po850`, `PO-850` and `850`.
+fn is_near_pair(word: &str) -> bool {
+    let bytes = word.as_bytes();
+    let mut digits = 0usize;
+    for b in bytes {
+        if !b.is_ascii_alphanumeric() && !matches!(b, b'-' | b'/' | b'_' | b':') {
+            return false;
+        }
+        digits = digits.saturating_add(usize::from(b.is_ascii_digit()));
+    }
+    digits == 3 && bytes.len() <= 6
+}
+
 /// Reads one input. Where it can't be read, is compressed or a folder, a sentence on standard error
 /// says why, and there is none.
-pub fn read(rt: &HostRuntime, name: &str) -> Result<Option<Vec<u8>>> {
-    if name == "-" {
-        return taken(rt, name, read_whole(rt.alloc(), &mut rt.stdin()));
+pub fn read(rt: &HostRuntime, style: &Style<'_>) -> Result<Option<Vec<u8>>> {
+    if style.file == "-" {
+        return taken(rt, style, read_whole(rt.alloc(), &mut rt.stdin()));
     }
-    match File::open(rt, name) {
-        Ok(file) if is_folder(&file) => unread(rt, name, "it is a folder"),
-        Ok(mut file) => taken(rt, name, read_whole(rt.alloc(), &mut file)),
-        Err(error) => {
-            eprintln!(rt; "van: {name}: it can't be opened: {error}")?;
-            Ok(None)
-        }
+    match File::open(rt, style.file) {
+        Ok(file) if is_folder(&file) => unread(rt, style, &"it is a folder"),
+        Ok(mut file) => taken(rt, style, read_whole(rt.alloc(), &mut file)),
+        Err(error) => unopened(rt, style, &error),
     }
 }
 
-/// What a run over an input found. A sentence on standard error says why it stopped.
-pub fn told(rt: &HostRuntime, file: &str, told: Result<Outcome, RunFault>) -> Result<Outcome> {
+/// What a run over an input found. A sentence on standard error says why it stopped, or that no
+/// interchange stands in the input.
+pub fn told(
+    rt: &HostRuntime,
+    style: &Style<'_>,
+    told: Result<Outcome, RunFault>,
+) -> Result<Outcome> {
     match told {
+        Ok(Outcome::Nothing) => {
+            unread(rt, style, &"no interchange stands in it")?;
+            Ok(Outcome::Nothing)
+        }
         Ok(outcome) => Ok(outcome),
         Err(fault) => {
-            eprintln!(rt; "van: {file}: {fault}")?;
+            let name = shown(rt.alloc(), style.file)?;
+            eprintln!(rt; "van: {name}: {fault}")?;
             Ok(Outcome::SomethingWrong)
         }
     }
@@ -135,6 +195,6 @@ pub fn both(one: Outcome, other: Outcome) -> Outcome {
 pub fn status(outcome: Outcome) -> ExitCode {
     match outcome {
         Outcome::AllRight => ExitCode::SUCCESS,
-        Outcome::SomethingWrong => ExitCode::from(1),
+        Outcome::SomethingWrong | Outcome::Nothing => ExitCode::from(1),
     }
 }

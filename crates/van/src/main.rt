@@ -2,15 +2,20 @@
 #![tactic(auto)]
 
 mod check;
+mod clashes;
+mod codes;
 mod color;
 mod command;
 mod explain;
 mod files;
+mod folders;
 mod parties;
 mod records;
 mod show;
+mod words;
 
 use crate::command::{Command, FILES, of_mailboxes};
+use crate::words::{as_texts, with_long_options};
 use anyhow::Result;
 use clap::ArgMatches;
 use command_table::{Fault, Group, Parsed, Program, help_text, parse, process_words};
@@ -33,6 +38,14 @@ fn run_command(rt: &HostRuntime, command: Command, found: &ArgMatches<'_>) -> Re
     }
 }
 
+/// The exit status where nothing could be said: a reader who has seen enough is no fault.
+fn unsaid(fault: Fault) -> Result<ExitCode> {
+    match fault {
+        Fault::System(error) if error.kind() == ErrorKind::BrokenPipe => Ok(ExitCode::SUCCESS),
+        fault => Err(fault.into()),
+    }
+}
+
 /// Runs the command that these words name.
 fn run_words(
     rt: &HostRuntime,
@@ -40,9 +53,10 @@ fn run_words(
     words: &[String],
 ) -> Result<ExitCode> {
     let help = help_text(rt.alloc(), program)?;
-    match parse(rt, program, help.as_str(), words)? {
-        Parsed::Found(command, found) => run_command(rt, command, &found),
-        Parsed::Ended(ending) => Ok(ExitCode::from(ending.status())),
+    match parse(rt, program, help.as_str(), words) {
+        Ok(Parsed::Found(command, found)) => run_command(rt, command, &found),
+        Ok(Parsed::Ended(ending)) => Ok(ExitCode::from(ending.status())),
+        Err(fault) => unsaid(fault),
     }
 }
 
@@ -65,16 +79,32 @@ fn run(rt: &HostRuntime, words: &[String]) -> Result<ExitCode> {
         about: ABOUT,
         groups: &groups,
     };
-    run_words(rt, &van, words)
+    run_words(rt, &van, &with_long_options(rt.alloc(), words)?)
 }
 
-/// Says that a word isn't UTF-8; any other fault ends the program.
-fn unreadable(rt: &HostRuntime, fault: Fault) -> Result<ExitCode> {
+/// Whether a command line is one that reads files, and makes none.
+fn only_reads(words: &[String]) -> bool {
+    match words.get(1) {
+        Some(word) => matches!(word.as_str(), "check" | "show" | "explain"),
+        None => false,
+    }
+}
+
+/// Runs a command line with a word that isn't UTF-8. Where files are read, that word names none and the
+/// others are read; any other command is refused.
+fn run_unreadable(rt: &HostRuntime) -> Result<ExitCode> {
+    let words = as_texts(rt)?;
+    if only_reads(&words) {
+        return run(rt, &words);
+    }
+    let stop = misuse(rt, &["an argument isn't UTF-8"]);
+    Ok(ExitCode::from(status_of(rt, stop)))
+}
+
+/// Goes on where the words of the command line can't be read as texts. Any other fault ends the program.
+fn run_without(rt: &HostRuntime, fault: Fault) -> Result<ExitCode> {
     match fault {
-        Fault::System(error) if error.kind() == ErrorKind::InvalidData => {
-            let stop = misuse(rt, &["an argument isn't UTF-8"]);
-            Ok(ExitCode::from(status_of(rt, stop)))
-        }
+        Fault::System(error) if error.kind() == ErrorKind::InvalidData => run_unreadable(rt),
         fault => Err(fault.into()),
     }
 }
@@ -82,6 +112,6 @@ fn unreadable(rt: &HostRuntime, fault: Fault) -> Result<ExitCode> {
 fn main(rt: HostRuntime) -> Result<ExitCode> {
     match process_words(&rt) {
         Ok(words) => run(&rt, &words),
-        Err(fault) => unreadable(&rt, fault),
+        Err(fault) => run_without(&rt, fault),
     }
 }

@@ -2,36 +2,35 @@
 //! GS01 and ST01).
 
 use anyhow::Result;
-use std::alloc::{AllocError, Global};
 use std::process::ExitCode;
-use x12_answering::{are_capitals_or_digits, read_pair};
 use x12_envelopes::Party;
 
-/// The plain party that a word names: the qualifier, then the identifier, as `ZZBETA`.
-pub fn read_party(word: &str) -> Option<Party> {
-    if !are_capitals_or_digits(word.as_bytes()) {
-        return None;
-    }
-    let (qualifier, identifier) = word.as_bytes().split_first_chunk::<2>()?;
-    let party = Party::new(*qualifier, identifier)?;
-    if party.is_plain() { Some(party) } else { None }
-}
-
-/// GS01 and ST01 of each word that is a pair, as `PO850`.
-pub fn read_pairs(alloc: Global, words: &[&str]) -> Result<Vec<([u8; 2], [u8; 3])>, AllocError> {
-    let mut pairs = Vec::new(alloc);
-    for word in words {
-        if let Some(pair) = read_pair(word.as_bytes()) {
-            pairs.push(pair)?;
+/// Whether an identifier may stand in ISA: 2 to 15 printable letters of ASCII, a space at no end.
+fn may_stand(identifier: &[u8]) -> bool {
+    for b in identifier {
+        if *b < b' ' || *b > b'~' {
+            return false;
         }
     }
-    Ok(pairs)
+    identifier.len() >= 2 && identifier.first() != Some(&b' ') && identifier.last() != Some(&b' ')
+}
+
+/// The party that a word names: the qualifier, then the identifier, with a slash between them or
+/// without, as `ZZ/BETA` and `ZZBETA`.
+pub fn read_party(word: &str) -> Option<Party> {
+    let (qualifier, behind) = word.as_bytes().split_first_chunk::<2>()?;
+    let identifier = behind.strip_prefix(b"/").unwrap_or(behind);
+    if may_stand(qualifier) && may_stand(identifier) {
+        Party::new(*qualifier, identifier)
+    } else {
+        None
+    }
 }
 
 /// Says on standard error that the word of an option names no party, and gives the exit status.
 pub fn refuse(rt: &HostRuntime, option: &str, as_is: &str) -> Result<ExitCode> {
     eprintln!(rt;
-        "error: {option} wants a qualifier of 2 and an identifier of 2 to 15 capital letters or digits, as {as_is}"
+        "error: {option} wants a qualifier of 2 and an identifier of 2 to 15 letters that ISA may hold, as ZZ/{as_is} or ZZ{as_is}"
     )?;
     Ok(ExitCode::from(2))
 }

@@ -1,5 +1,6 @@
 //! `van show`: the segments of a file.
 
+use crate::clashes::{self, Clash};
 use crate::{color, files};
 use anyhow::Result;
 use clap::ArgMatches;
@@ -66,7 +67,7 @@ fn layout(found: &ArgMatches<'_>) -> Option<Layout> {
 
 /// Shows one input.
 fn show(rt: &HostRuntime, style: &Style<'_>, layout: Option<Layout>) -> Result<Outcome> {
-    let Some(input) = files::read(rt, style.file)? else {
+    let Some(input) = files::read(rt, style)? else {
         return Ok(Outcome::SomethingWrong);
     };
     let shown = match layout {
@@ -76,21 +77,62 @@ fn show(rt: &HostRuntime, style: &Style<'_>, layout: Option<Layout>) -> Result<O
         },
         None => run_show(rt.alloc(), style, &input, &mut rt.stdout()),
     };
-    files::told(rt, style.file, shown)
+    files::told(rt, style, shown)
+}
+
+/// Shows each input.
+fn show_all(
+    rt: &HostRuntime,
+    style: &Style<'_>,
+    layout: Option<Layout>,
+    words: &[&str],
+) -> Result<Outcome> {
+    let named = files::find_files(rt, words, false)?;
+    let mut outcome = named.outcome;
+    for file in &named.files {
+        let file = file.as_str();
+        if layout.is_none() {
+            files::head(rt, style.form, &named.files, file)?;
+        }
+        outcome = files::both(outcome, show(rt, &Style { file, ..*style }, layout)?);
+    }
+    Ok(outcome)
+}
+
+/// What doesn't go together.
+fn clashes_in(found: &ArgMatches<'_>) -> [Clash; 3] {
+    let (plain, join) = (found.get_flag("plain"), found.get_flag("join"));
+    let json = found.get_flag("json");
+    [
+        Clash {
+            both: plain && join,
+            one: "--plain",
+            other: "--join",
+        },
+        Clash {
+            both: plain && json,
+            one: "--plain",
+            other: "--json",
+        },
+        Clash {
+            both: join && json,
+            one: "--join",
+            other: "--json",
+        },
+    ]
 }
 
 /// Runs the subcommand, and gives its exit status.
 pub fn run(rt: &HostRuntime, found: &ArgMatches<'_>) -> Result<ExitCode> {
-    let layout = layout(found);
-    let form = files::form(found);
-    let look = color::look(rt, found);
-    let named = files::named(rt.alloc(), found.get_strs("files").unwrap_or(&[]))?;
-    let mut outcome = Outcome::AllRight;
-    for file in &named {
-        if layout.is_none() {
-            files::head(rt, form, &named, file)?;
-        }
-        outcome = files::both(outcome, show(rt, &Style { form, look, file }, layout)?);
+    if let Some(status) = clashes::refuse(rt, &clashes_in(found))? {
+        return Ok(status);
     }
-    Ok(files::status(outcome))
+    let words = found.get_strs("files").unwrap_or(&[]);
+    let style = Style {
+        form: files::form(found),
+        look: color::look(rt, found),
+        file: "-",
+        is_quiet: false,
+    };
+    Ok(files::status(show_all(rt, &style, layout(found), words)?))
 }

@@ -1,9 +1,9 @@
 //! What an interchange answers, as JSON: one object on a line; and which sets are pending.
 
 use crate::answered::{Answered, Line, Pointed, Spoken, first_named, ta1_code};
-use crate::coded::{code_of, numbered};
+use crate::coded::code_of;
 use crate::pending::Keyed;
-use crate::piece::{Filled, NULL, icn, members};
+use crate::piece::{NULL, Number, icn, members};
 use crate::slice::Interchange;
 use crate::text::Text;
 use x12_acks::Answer;
@@ -25,49 +25,75 @@ fn put_codes(out: &mut Text, read: &Segment<'_>, family: &'static str, first: us
 
 /// Adds a listed set, up to its notes.
 fn put_set(out: &mut Text, read: &Segment<'_>, last: &Segment<'_>, is_sent: Option<bool>) {
-    members!(out; "type": read.element(1), "number": read.element(2));
+    members!(out; "type": read.element(1), "set_number": read.element(2));
     out.member("fares", code_of("AK501", last.element(1)));
     put_codes(out, last, "AK502", 2);
-    out.member_if("sent", is_sent);
+    out.member_if("was_sent", is_sent);
     out.begin_list("notes");
+}
+
+/// Adds which segment a note is of (AK3).
+fn put_place(out: &mut Text, read: &Segment<'_>) {
+    members!(out; "segment": Number(read.element(2)), "identifier": read.element(1));
 }
 
 /// Adds a note of a segment.
 fn put_segment(out: &mut Text, read: &Segment<'_>, at: Pointed<'_>) {
-    members!(out; "identifier": read.element(1), "segment": read.element(2));
+    put_place(out, read);
     put_codes(out, read, "AK304", 4);
     out.member_if("sent", at);
     out.put(b"}");
 }
 
-/// Adds a note of an element.
-fn put_element(out: &mut Text, read: &Segment<'_>, at: Pointed<'_>) {
-    members!(out; "element": read.element(1), "reference": read.element(2));
-    members!(out; "code": code_of("AK403", read.element(3)), "value": read.element(4));
+/// Adds a note of an element, of the segment that was noted before.
+fn put_element(out: &mut Text, above: Option<&Segment<'_>>, read: &Segment<'_>, at: Pointed<'_>) {
+    if let Some(above) = above {
+        put_place(out, above);
+    }
+    members!(out; "element": Number(read.element(1)), "reference": Number(read.element(2)));
+    out.member("value", read.element(4));
+    out.begin_list("codes");
+    out.item(code_of("AK403", read.element(3)));
+    out.put(b"]");
     out.member_if("sent", at);
     out.put(b"}");
 }
 
-/// Adds a line of a 997. The list of a set's notes stays open.
-fn put_line(out: &mut Text, line: &Line<'_, '_>) {
+/// Adds a line of a 997, behind the segment that was noted before it. The list of a set's notes stays
+/// open.
+fn put_line(out: &mut Text, above: Option<&Segment<'_>>, line: &Line<'_, '_>) {
     out.begin_item();
     match line {
         Line::Set(read, last, is_sent) => put_set(out, read, last, *is_sent),
         Line::Segment(read, at) => put_segment(out, read, *at),
-        Line::Element(read, at) => put_element(out, read, *at),
+        Line::Element(read, at) => put_element(out, above, read, *at),
+    }
+}
+
+/// The segment that was noted last, behind a line: none at the head of a set.
+fn above<'l, 'a>(
+    before: Option<&'l Segment<'a>>,
+    line: &'l Line<'a, '_>,
+) -> Option<&'l Segment<'a>> {
+    match line {
+        Line::Set(..) => None,
+        Line::Segment(read, _) => Some(read),
+        Line::Element(..) => before,
     }
 }
 
 /// Adds the sets that a 997 lists.
 fn put_lines(out: &mut Text, lines: &[Line<'_, '_>]) {
     let mut end = "";
+    let mut noted = None;
     out.begin_list("sets");
     for line in lines {
         if matches!(line, Line::Set(..)) {
             out.say(end);
             end = "]}";
         }
-        put_line(out, line);
+        put_line(out, noted, line);
+        noted = above(noted, line);
     }
     out.say(end);
     out.say("]");
@@ -75,13 +101,15 @@ fn put_lines(out: &mut Text, lines: &[Line<'_, '_>]) {
 
 /// Adds which group a 997 answers (AK1).
 fn put_answered(out: &mut Text, about: &Segment<'_>) {
-    members!(out; "answers": "group", "functional": about.element(1), "number": about.element(2));
+    members!(out; "about": "group", "functional": about.element(1));
+    out.member("group_number", Number(about.element(2)));
 }
 
 /// Adds how the group of a 997 fares (AK9).
 fn put_fares(out: &mut Text, last: &Segment<'_>) {
-    members!(out; "fares": code_of("AK901", last.element(1)), "included": last.element(2));
-    members!(out; "received": last.element(3), "accepted": last.element(4));
+    members!(out; "fares": code_of("AK901", last.element(1)));
+    members!(out; "sets_included": Number(last.element(2)), "sets_received": Number(last.element(3)));
+    out.member("sets_accepted", Number(last.element(4)));
     put_codes(out, last, "AK905", 5);
 }
 
@@ -94,24 +122,29 @@ fn put_group(out: &mut Text, delims: &Delims, set: &SetView<'_>, lines: &[Line<'
 
 /// Adds that the set of an answer is no 997 that can be read.
 fn put_unclear(out: &mut Text, set: &SetView<'_>) {
-    members!(out; "answers": NULL, "type": &set.set, "number": set.number.as_bytes());
+    members!(out; "about": NULL, "type": &set.set, "set_number": set.number.as_bytes());
 }
 
 /// Adds a set of a file by its numbers.
 fn put_numbers(out: &mut Text, keyed: &Keyed<'_, '_>) {
     let found = &keyed.set;
     out.begin_item();
-    members!(out; "interchange": icn(keyed.key.icn), "functional": &found.group.functional);
-    members!(out; "group": found.group.number_text, "type": &found.set.set);
-    out.member("number", found.set.number.as_bytes());
+    members!(out; "number": icn(keyed.key.icn), "functional": &found.group.functional);
+    members!(out; "group_number": Number(found.group.number_text), "type": &found.set.set);
+    out.member("set_number", found.set.number.as_bytes());
+}
+
+/// A note of an interchange as TA105 has it.
+fn three_digits(note: u16) -> [u8; 3] {
+    let digit = |n: u16| b'0'.saturating_add((n % 10) as u8);
+    [digit(note / 100), digit(note / 10), digit(note)]
 }
 
 /// Adds a TA1.
 fn put_ta1(out: &mut Text, to: u32, code: AcknowledgmentCode, note: u16) {
-    members!(out; "answers": "interchange", "number": icn(to), "fares": ta1_code(code));
-    out.begin_object("note");
-    members!(out; "code": Filled(b"000", u64::from(note)), "words": numbered("TA1", u32::from(note)).words);
-    out.put(b"}");
+    members!(out; "about": "interchange", "number": icn(to), "fares": ta1_code(code));
+    let digits = three_digits(note);
+    out.member("note", code_of("TA1", &digits));
 }
 
 /// The word of the fate that a set closes with, if it does.

@@ -7,7 +7,7 @@ use crate::piece::{Filled, icn, say};
 use crate::slice::Interchange;
 use crate::text::Text;
 use x12_acks::Answer;
-use x12_envelopes::{AcknowledgmentCode, Delims, Segment, SetView};
+use x12_envelopes::{AcknowledgmentCode, Delims, Segment, SetView, number_of};
 use x12_sent::{SentFile, SentSet};
 use x12_words::fate_word;
 
@@ -63,7 +63,11 @@ fn say_segment(out: &mut Text, read: &Segment<'_>, at: Pointed<'_>) {
 
 /// Adds a note of an element.
 fn say_element(out: &mut Text, read: &Segment<'_>, at: Pointed<'_>) {
-    say!(out; "        element ", read.element(1), " (", read.element(2), ")");
+    say!(out; "        element ", read.element(1));
+    match number_of(read.element(2)) {
+        Some(reference) => out.element(reference),
+        None => say!(out; " (", read.element(2), ")"),
+    }
     out.say_copy(read.element(4));
     say_pointed(out, at);
     say!(out; ": ", code_of("AK403", read.element(3)), "\n");
@@ -110,7 +114,8 @@ fn may_be_silent(answer: &Answer) -> bool {
 /// Adds a TA1.
 fn say_ta1(out: &mut Text, to: u32, code: AcknowledgmentCode, note: u16) {
     say!(out; "  TA1, interchange ", icn(to), ": ", Fares(ta1_code(code)));
-    say!(out; "; ", Filled(b"000", u64::from(note)), " ", numbered("TA1", u32::from(note)).words, "\n");
+    say!(out; "; TA1/", Filled(b"000", u64::from(note)));
+    say!(out; " ", numbered("TA1", u32::from(note)).words, "\n");
 }
 
 /// Adds what a 997 says: of its group, and of the sets that it lists.
@@ -130,7 +135,7 @@ fn say_unclear(out: &mut Text, set: &SetView<'_>) {
 /// Adds the sets in a file of this name that an answer speaks of.
 fn say_meaning(out: &mut Text, answer: &Answer, spoken: &[Spoken<'_, '_>], name: &str) {
     if spoken.is_empty() && !may_be_silent(answer) {
-        say!(out; "    speaks of no set in ", name, "\n");
+        say!(out; "    speaks of no set in ", name.as_bytes(), "\n");
     }
     for set in spoken {
         say_spoken(out, matches!(answer, Answer::Interchange { .. }), set);
@@ -165,7 +170,7 @@ fn say_beside(
     sent: &SentFile<'_>,
 ) {
     if !sent.is_sender(&at.header.receiver) {
-        say!(out; "  not to ", sent.sender(), ", the sender of ", sent.name(), "\n");
+        say!(out; "  not to ", sent.sender(), ", the sender of ", sent.name().as_bytes(), "\n");
     }
     say_each(out, &at.header.delims, answers, sent.name());
 }
@@ -190,7 +195,7 @@ pub(crate) fn say_answers(
 
 /// Adds the sets of a file that stay pending.
 pub(crate) fn say_pending(out: &mut Text, name: &str, sets: &[Keyed<'_, '_>]) {
-    say!(out; "pending in ", name, if sets.is_empty() { ": none\n" } else { ":\n" });
+    say!(out; "pending in ", name.as_bytes(), if sets.is_empty() { ": none\n" } else { ":\n" });
     for keyed in sets {
         say!(out; "  interchange ", icn(keyed.key.icn), ", ");
         say_set(out, true, &keyed.set);

@@ -1,17 +1,18 @@
 //! Checking a transmission: what is wrong with each of its interchanges.
 
-ghost use Rattle.std.specs.Prelude.{◌≡◌, IfOk, Ok};
+ghost use Rattle.std.specs.Prelude.{◌≡◌, [], ◌∷◌, IfOk, Ok};
 ghost use Rattle.x12_envelopes.specs.Header.{header_of};
-ghost use Rattle.x12_judge.specs.Verdict.{judgement_of, judgement_view};
-ghost use Rattle.x12_inspect.specs.Checking.{EndsAsChecked};
-ghost use Rattle.x12_answering.specs.Answering.{agreements_on};
+ghost use Rattle.x12_judge.specs.Agreement.{agreement_view};
+ghost use Rattle.x12_inspect.specs.Checking.{EndsAsChecked, agreements_taken, checking_party};
+ghost use Rattle.x12_inspect.specs.Checking.{pairs_taken};
 
 use crate::accepting::accepts_all;
 use crate::coded::numbered;
 use crate::fault::cause_of;
 use crate::inspecting::{Inspector, Outcome, inspect_all};
-use crate::report::{Found, Judged, checked, tell, unreadable};
+use crate::report::{Found, Judged, Taken, checked, tell, unreadable};
 use crate::slice::{Interchange, Slice};
+use crate::standing::{Pairs, standing_pairs};
 use crate::style::Style;
 use crate::text::Text;
 use std::alloc::{AllocError, Global};
@@ -24,33 +25,65 @@ use x12_judge::{Agreement, Judgement, Verdict, judge};
 /// What checking is told.
 #[derive(Drop)]
 pub struct CheckTerms {
-    /// The station that checks: the receiver of the interchanges.
-    pub me: Party,
+    /// The station that checks; `None` where it is the receiver of each interchange.
+    pub me: Option<Party>,
     /// Whether sets are accepted whose only errors are in elements, with these noted.
     pub lenient: bool,
-    /// GS01 and ST01 of what is taken from every partner, as `PO` and `850`.
+    /// GS01 and ST01 of what is taken from every partner, as `PO` and `850`; where none is named, of the
+    /// sets that stand in the interchange.
     pub pairs: Vec<([u8; 2], [u8; 3])>,
 }
 
 impl CheckTerms {
-    /// Judges an interchange. What is taken is taken from its sender as from any other.
-    fn judge<'a>(
+    /// The station that checks an interchange with this header.
+    fn party(&self, header: &Header) -> Party
+        ensures { result ≡ checking_party self.now.me header.now }
+    {
+        match self.me {
+            Some(me) => me,
+            None => header.receiver,
+        }
+    }
+
+    /// GS01 and ST01 of what is taken of an interchange.
+    fn pairs(&self, alloc: Global, bytes: &[u8], header: &Header) -> Result<Pairs, AllocError>
+        requires read { header_of bytes.now ≡ Ok header.now }
+        ensures { IfOk result (λ v. v.items ≡ pairs_taken self.now header.now bytes.now) }
+    {
+        if self.pairs.as_slice().is_empty() {
+            return standing_pairs(alloc, bytes, header);
+        }
+        Vec::from_slice(alloc, self.pairs.as_slice())
+    }
+
+    /// The agreement under which an interchange is checked. What is taken is taken from its sender as
+    /// from any other.
+    fn agreement(
         &self,
         alloc: Global,
-        bytes: &'a [u8],
+        bytes: &[u8],
         header: &Header,
-    ) -> Result<Judgement<'a>, AllocError>
+    ) -> Result<Agreement, AllocError>
         requires read { header_of bytes.now ≡ Ok header.now }
-        ensures judged { IfOk result (λ j. judgement_view j ≡ judgement_of self.now.me
-            (agreements_on self.now.lenient self.now.pairs.items header.now.sender)
-            header.now bytes.now) }
+        ensures { IfOk result (λ a.
+            agreement_view a ∷ [] ≡ agreements_taken self.now header.now bytes.now) }
     {
-        let agreement = Agreement {
+        let pairs = self.pairs(alloc, bytes, header)?;
+        Ok(Agreement {
             partner: header.sender,
             lenient: self.lenient,
-            pairs: Vec::from_slice(alloc, self.pairs.as_slice())?,
-        };
-        judge(alloc, &self.me, slice::from_ref(&agreement), bytes, header)
+            pairs,
+        })
+    }
+
+    /// Who checks an interchange, and what is taken under an agreement.
+    fn taken<'r>(&self, header: &Header, agreement: &'r Agreement) -> Taken<'r> {
+        Taken {
+            me: self.party(header),
+            is_receiver: self.me.is_none(),
+            pairs: agreement.pairs.as_slice(),
+            are_standing: self.pairs.is_empty(),
+        }
     }
 
     /// What is found of an interchange that was judged.
@@ -58,15 +91,16 @@ impl CheckTerms {
         &self,
         alloc: Global,
         at: &Interchange<'r, 'a>,
+        taken: Taken<'r>,
         judgement: &'r Judgement<'a>,
     ) -> Result<Found<'r, 'a>, AllocError> {
         match &judgement.verdict {
             Verdict::Refused(note) => {
                 let coded = numbered("TA1", u32::from(note.number()));
-                let cause = cause_of(alloc, note.number(), &self.me, at)?;
+                let cause = cause_of(alloc, note.number(), &taken.me, at)?;
                 Ok(Found::Refused(coded, cause))
             }
-            Verdict::Judged(groups) => Ok(Found::Judged(Judged { groups })),
+            Verdict::Judged(groups) => Ok(Found::Judged(Judged { taken, groups })),
         }
     }
 }
@@ -100,8 +134,12 @@ impl Inspector for Receiver<'_> {
             }
         };
         let at = slice.with(&header);
-        let judgement = self.terms.judge(alloc, slice.bytes, &header)?;
-        let found = self.terms.found(alloc, &at, &judgement)?;
+        let agreement = self.terms.agreement(alloc, slice.bytes, &header)?;
+        let me = self.terms.party(&header);
+        let agreements = slice::from_ref(&agreement);
+        let judgement = judge(alloc, &me, agreements, slice.bytes, &header)?;
+        let taken = self.terms.taken(&header, &agreement);
+        let found = self.terms.found(alloc, &at, taken, &judgement)?;
         let accepted = accepts_all(&judgement);
         tell(self.style, out, &checked(&at, accepted, found));
         Ok(accepted)

@@ -3,7 +3,7 @@
 use crate::piece::{Ink, say};
 use crate::printing::Noted;
 use crate::style::Look;
-use crate::text::Text;
+use crate::text::{Text, is_hidden};
 use std::str;
 use x12_envelopes::{Delims, cut_at};
 use x12_judge::SetNote;
@@ -12,15 +12,31 @@ use x12_segments::without_line_ends;
 /// The most bytes that are shown in front of what is wrong, and from it on.
 const AROUND: usize = 40;
 
-/// How many characters bytes are shown as, which are among bytes that are UTF-8 or aren't.
+/// How many columns a letter is shown in.
+fn columns(number: u32) -> usize {
+    if !is_hidden(number) {
+        1
+    } else if number < 0x100 {
+        4
+    } else {
+        8
+    }
+}
+
+/// How many columns bytes are shown in, which are among bytes that are UTF-8 or aren't.
 fn width(are_utf8: bool, bytes: &[u8]) -> usize {
     let mut width = 0usize;
-    for b in bytes {
-        width = width.saturating_add(match *b {
-            0..=0x1F | 0x7F => 4,
-            b if are_utf8 && b & 0xC0 == 0x80 => 0,
-            _ => 1,
-        });
+    match str::from_utf8(bytes) {
+        Ok(text) if are_utf8 => {
+            for c in text.chars() {
+                width = width.saturating_add(columns(u32::from(c)));
+            }
+        }
+        _ => {
+            for b in bytes {
+                width = width.saturating_add(columns(u32::from(*b)));
+            }
+        }
     }
     width
 }

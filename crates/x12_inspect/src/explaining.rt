@@ -47,6 +47,7 @@ fn unread<'r, 'a>(at: &Interchange<'r, 'a>, fault: OutlineFault) -> Report<'r, '
     Report {
         place: at.place,
         header: Some(at.header),
+        bytes: at.bytes,
         accepted: None,
         found: Found::Unreadable(outline_fault(at, fault)),
     }

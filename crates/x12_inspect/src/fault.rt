@@ -3,12 +3,13 @@
 
 use crate::coded::{Coded, code_of};
 use crate::excerpt::part;
+use crate::header_words::{Wrong, found_of};
 use crate::piece::say;
 use crate::slice::Interchange;
 use crate::style::Look;
 use crate::text::Text;
 use std::alloc::{AllocError, Global};
-use x12_envelopes::{Header, HeaderFault, Outline, OutlineFault, Party, outline};
+use x12_envelopes::{Header, HeaderFault, Outline, OutlineFault, Party, cut_at, outline};
 
 /// How many bytes are shown in front of a place, and from it on.
 const ROUND: usize = 20;
@@ -26,16 +27,20 @@ pub(crate) struct Fault<'a> {
     pub round: &'a [u8],
     /// How many of them stand before it.
     pub before: usize,
+    /// What was found there, where there is more to say than the fault.
+    pub wrong: Wrong<'a>,
 }
 
-/// The fault of a header, which is looked for from its first byte on.
-pub(crate) fn header_fault(bytes: &[u8], fault: HeaderFault) -> Fault<'_> {
+/// The fault of a header, at the element that has it.
+pub(crate) fn header_fault<'a>(bytes: &'a [u8], fault: HeaderFault) -> Fault<'a> {
+    let found = found_of(bytes, fault);
     Fault {
         coded: code_of("H", fault.number().as_bytes()),
-        at: 0,
+        at: found.at,
         segment: 1,
-        round: part(bytes, 0, 2 * ROUND),
-        before: 0,
+        round: part(bytes, found.at.saturating_sub(ROUND), 2 * ROUND),
+        before: found.at.min(ROUND),
+        wrong: found.wrong,
     }
 }
 
@@ -50,6 +55,26 @@ fn segment_behind(terminator: u8, bytes: &[u8]) -> usize {
     segment
 }
 
+/// The bytes of the segment that begins or goes on behind these bytes, as far as they go.
+fn begun(terminator: u8, bytes: &[u8]) -> &[u8] {
+    let mut rest = bytes;
+    while let Some((_, behind)) = cut_at(terminator, rest) {
+        rest = behind;
+    }
+    rest
+}
+
+/// What stands at a place of an interchange: blanks in front of a segment, if it is that.
+fn wrong_at<'a>(at: &Interchange<'_, 'a>, place: usize) -> Wrong<'a> {
+    let before = begun(at.header.delims.terminator, part(at.bytes, 0, place));
+    let shown = part(at.bytes, place, 1);
+    let here = shown == b" ".as_slice() || shown == b"\t".as_slice();
+    if before.iter().all(|b| b.is_ascii_whitespace()) && (here || before.contains(&b' ')) {
+        return Wrong::Other("blanks stand behind a segment terminator: leave them out");
+    }
+    Wrong::Unsaid
+}
+
 /// The fault of an outline, where it stands.
 pub(crate) fn outline_fault<'a>(at: &Interchange<'_, 'a>, fault: OutlineFault) -> Fault<'a> {
     let place = fault.place().unwrap_or(0);
@@ -60,6 +85,7 @@ pub(crate) fn outline_fault<'a>(at: &Interchange<'_, 'a>, fault: OutlineFault) -
         segment: segment_behind(at.header.delims.terminator, before),
         round: part(at.bytes, place.saturating_sub(ROUND), 2 * ROUND),
         before: place.min(ROUND),
+        wrong: wrong_at(at, place),
     }
 }
 
@@ -113,11 +139,20 @@ fn say_trailer(words: &mut Text, note: u16, header: &Header, read: &Outline<'_>)
     }
 }
 
+/// Adds the version of the controls or of their standard, and of which version the file is, if that
+/// is a later one.
+fn say_version(words: &mut Text, name: &str, found: &[u8], version: &[u8; 5]) {
+    say_element(words, name, found);
+    if version.as_slice() > b"00401".as_slice() {
+        say!(words; "; the file is of version ", version, "0 (ISA12), and 004010 is read");
+    }
+}
+
 /// Adds what a note of the header was found in.
 fn say_header(words: &mut Text, note: u16, me: &Party, header: &Header) {
     match note {
-        2 => say_element(words, "ISA11", &[header.standard]),
-        3 => say_element(words, "ISA12", &header.version),
+        2 => say_version(words, "ISA11", &[header.standard], &header.version),
+        3 => say_version(words, "ISA12", &header.version, &header.version),
         8 => say_address(words, "ISA07 and ISA08", &header.receiver, me),
         14 => say_element(words, "ISA09", &header.date),
         15 => say_element(words, "ISA10", &header.time),

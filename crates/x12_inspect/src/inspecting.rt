@@ -19,6 +19,8 @@ pub enum Outcome {
     AllRight,
     /// Something is wrong.
     SomethingWrong,
+    /// No interchange stands in the input.
+    Nothing,
 }
 
 impl Outcome {
@@ -103,5 +105,9 @@ pub(crate) fn inspect_all<I: Inspector, W: Write>(
         I.asked inspector.old interchanges inspector.new) input.now) }
 {
     let interchanges = split_transmission(alloc, input)?;
-    inspect_each(alloc, inspector, look, interchanges.as_slice(), out)
+    let slices = interchanges.as_slice();
+    if slices.is_empty() {
+        return Ok(Outcome::Nothing);
+    }
+    inspect_each(alloc, inspector, look, slices, out)
 }

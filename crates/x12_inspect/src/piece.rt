@@ -4,7 +4,7 @@
 use crate::style::{Form, Look};
 use crate::text::Text;
 use itoa::Buffer;
-use x12_envelopes::Party;
+use x12_envelopes::{Party, number_of};
 
 /// Adds pieces one behind another, as a person reads them.
 macro_rules! say {
@@ -114,7 +114,20 @@ impl Piece for &Text {
 /// Nothing, as a value of JSON.
 pub(crate) const NULL: Option<bool> = None;
 
-/// A number in the place of the last bytes of these, as 9 in `000` is `009`; in JSON a text.
+/// A number as it stands in a file: in JSON a number, or a text where it is none of one to nine digits.
+#[derive(Clone, Copy)]
+pub(crate) struct Number<'a>(pub &'a [u8]);
+
+impl Piece for Number<'_> {
+    fn add(self, form: Form, out: &mut Text) {
+        match number_of(self.0) {
+            Some(number) if form == Form::Json => number.add(form, out),
+            _ => self.0.add(form, out),
+        }
+    }
+}
+
+/// A number in the place of the last bytes of these, as 9 in `000` is `009`; in JSON the number alone.
 #[derive(Clone, Copy)]
 pub(crate) struct Filled(pub &'static [u8], pub u64);
 
@@ -122,12 +135,11 @@ impl Piece for Filled {
     fn add(self, form: Form, out: &mut Text) {
         let mut buffer = Buffer::new();
         let digits = buffer.format(self.1).as_bytes();
-        let (front, _) = self.0.split_at(self.0.len().saturating_sub(digits.len()));
-        let quote: &[u8] = if form == Form::Json { b"\"" } else { b"" };
-        out.put(quote);
-        out.put(front);
+        if form != Form::Json {
+            let (front, _) = self.0.split_at(self.0.len().saturating_sub(digits.len()));
+            out.put(front);
+        }
         out.put(digits);
-        out.put(quote);
     }
 }
 
@@ -139,7 +151,10 @@ pub(crate) fn icn(number: u32) -> Filled {
 /// An address as qualifier and identifier, as `ZZ/ALPHA`.
 impl Piece for &Party {
     fn add(self, form: Form, out: &mut Text) {
-        let quote: &[u8] = if form == Form::Text { b"" } else { b"\"" };
+        if form == Form::Csv {
+            return out.party_cell(self);
+        }
+        let quote: &[u8] = if form == Form::Json { b"\"" } else { b"" };
         out.put(quote);
         out.within(form, &self.qualifier);
         out.put(b"/");
@@ -175,6 +190,16 @@ impl Piece for Ink {
 }
 
 impl Text {
+    /// Adds an address as a cell of CSV.
+    fn party_cell(&mut self, party: &Party) {
+        let mut room = [b'/'; 18];
+        let (qualifier, behind) = room.split_at_mut(2);
+        qualifier.copy_from_slice(&party.qualifier);
+        let (_, identifier) = behind.split_at_mut(1);
+        identifier.copy_from_slice(&party.id);
+        self.cell_text(room.trim_ascii_end());
+    }
+
     /// Adds a piece as a person reads it; another may follow.
     pub(crate) fn say<P: Piece>(&mut self, piece: P) -> &mut Text {
         piece.add(Form::Text, self);

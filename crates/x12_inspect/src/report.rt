@@ -2,13 +2,17 @@
 
 use crate::coded::Coded;
 use crate::fault::{Cause, Fault, header_fault};
-use crate::report_csv::put_rows;
-use crate::report_json::put_report;
+use crate::piece::say;
+use crate::report_csv::{self, put_rows};
+use crate::report_json::{self, put_report};
 use crate::report_words::say_report;
 use crate::slice::{Interchange, Slice};
 use crate::style::{Form, Style};
 use crate::text::Text;
-use x12_envelopes::{Header, HeaderFault};
+use std::alloc::Global;
+use std::io::Write;
+use x12_answering::{RunFault, write_last};
+use x12_envelopes::{Header, HeaderFault, Party};
 use x12_judge::{GroupVerdict, SetVerdict};
 
 /// What is found of an interchange.
@@ -18,6 +22,8 @@ pub(crate) struct Report<'r, 'a> {
     pub place: usize,
     /// Its header; `None` where that can't be read.
     pub header: Option<&'r Header>,
+    /// Its bytes.
+    pub bytes: &'a [u8],
     /// Whether it is accepted with all that it holds, or may be submitted; `None` where that isn't
     /// asked.
     pub accepted: Option<bool>,
@@ -25,9 +31,24 @@ pub(crate) struct Report<'r, 'a> {
     pub found: Found<'r, 'a>,
 }
 
+/// Who checks an interchange, and what is taken.
+#[derive(Clone, Copy)]
+pub(crate) struct Taken<'r> {
+    /// Who checks.
+    pub me: Party,
+    /// Whether that is its receiver, since no other station was named.
+    pub is_receiver: bool,
+    /// GS01 and ST01 of what is taken.
+    pub pairs: &'r [([u8; 2], [u8; 3])],
+    /// Whether these are the sets that stand in it, since no pair was named.
+    pub are_standing: bool,
+}
+
 /// What its receiver finds of an interchange that isn't refused as a whole.
 #[derive(Clone, Copy)]
 pub(crate) struct Judged<'r, 'a> {
+    /// Under which terms.
+    pub taken: Taken<'r>,
     /// The verdicts of its groups.
     pub groups: &'r [GroupVerdict<'a>],
 }
@@ -91,6 +112,7 @@ pub(crate) fn checked<'r, 'a>(
     Report {
         place: at.place,
         header: Some(at.header),
+        bytes: at.bytes,
         accepted: Some(accepted),
         found,
     }
@@ -101,6 +123,7 @@ pub(crate) fn headless<'r, 'a>(slice: &Slice<'a>, found: Found<'r, 'a>) -> Repor
     Report {
         place: slice.place,
         header: None,
+        bytes: slice.bytes,
         accepted: Some(false),
         found,
     }
@@ -111,11 +134,46 @@ pub(crate) fn unreadable<'r, 'a>(slice: &Slice<'a>, fault: HeaderFault) -> Repor
     headless(slice, Found::Unreadable(header_fault(slice.bytes, fault)))
 }
 
+/// Whether an interchange is accepted or may be submitted, and no error was noted in it.
+fn is_right(report: &Report<'_, '_>) -> bool {
+    if report.accepted != Some(true) {
+        return false;
+    }
+    match &report.found {
+        Found::Judged(judged) => counts_of(judged.groups).noted == 0,
+        _ => true,
+    }
+}
+
 /// Tells what is found of an interchange.
 pub(crate) fn tell(style: &Style<'_>, out: &mut Text, report: &Report<'_, '_>) {
+    if style.is_quiet && is_right(report) {
+        return;
+    }
+    if style.is_quiet && style.form == Form::Text {
+        say!(out; style.file.as_bytes(), ": ");
+    }
     match style.form {
         Form::Text => say_report(out, report),
         Form::Json => put_report(out, style.file, report),
         Form::Csv => put_rows(out, style.file, report),
     }
+}
+
+/// Tells in JSON or CSV why the file can't be read; words of that stand elsewhere, on standard error.
+///
+/// An error is `RunFault::Write` or `RunFault::Memory`.
+pub fn run_unread<W: Write>(
+    alloc: Global,
+    style: &Style<'_>,
+    why: &str,
+    out: &mut W,
+) -> Result<(), RunFault> {
+    let mut text = Text::new(alloc, style.look);
+    match style.form {
+        Form::Text => {}
+        Form::Json => report_json::put_unread(&mut text, style.file, why.as_bytes()),
+        Form::Csv => report_csv::put_unread(&mut text, style.file, why.as_bytes()),
+    }
+    write_last(text.whole()?, out)
 }

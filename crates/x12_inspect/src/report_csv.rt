@@ -11,7 +11,7 @@ use x12_judge::{GroupVerdict, SetNote, SetVerdict};
 
 /// The names of the columns, which stand on the first line.
 pub const CSV_HEAD: &str =
-    "file,interchange,number,sender,receiver,group,functional,group_number,set,type,set_number,segment,identifier,element,reference,value,family,code,words,found";
+    "file,interchange,number,sender,receiver,group,functional,group_number,set,type,set_number,segment,identifier,element,reference,value,family,code,words,found\r\n";
 
 /// Adds the cells that each line of an interchange begins with: its file, place, number and parties.
 fn put_front(out: &mut Text, file: &str, report: &Report<'_, '_>) {
@@ -37,7 +37,7 @@ fn put_set(out: &mut Text, at: &JudgedSet<'_, '_>) {
 /// Adds the last cells: the code with its family and words, and that nothing more was found.
 fn put_code(out: &mut Text, family: &str, coded: Coded<'_>) {
     cells!(out; family, coded.code, coded.words);
-    out.say(",\n");
+    out.say(",\r\n");
 }
 
 /// Adds the codes of a set, as a cell.
@@ -49,13 +49,15 @@ fn put_codes(out: &mut Text, set: &SetVerdict<'_>) {
     }
 }
 
-/// Adds what the codes of a set say, as a cell that isn't ended yet.
+/// Adds what the codes of a set say, as a cell.
 fn put_words(out: &mut Text, set: &SetVerdict<'_>) {
-    let mut between = ",\"";
+    let mut between = "";
+    let mut words = out.beside();
     for code in set.codes.as_slice() {
-        say!(out; between, numbered("AK502", u32::from(code.number())).words);
+        say!(words; between, numbered("AK502", u32::from(code.number())).words);
         between = "; ";
     }
+    out.cell(words.bytes());
 }
 
 /// Adds the last cells of a set that is rejected: its codes with their family and words.
@@ -63,7 +65,7 @@ fn put_rejected(out: &mut Text, set: &SetVerdict<'_>) {
     out.say(",AK502,");
     put_codes(out, set);
     put_words(out, set);
-    out.say("\",\n");
+    out.say(",\r\n");
 }
 
 /// Adds where a fault is, as what stands between quotes.
@@ -93,7 +95,7 @@ fn put_refused(out: &mut Text, family: &[u8], coded: Coded<'_>, cause: &Cause<'_
         }
         Cause::Words(words) => out.within(Form::Csv, words.bytes()),
     }
-    out.say("\"\n");
+    out.say("\"\r\n");
 }
 
 /// Adds a line for each finding. A note stands behind the cells of its set.
@@ -161,6 +163,14 @@ fn put_groups<'t>(
     print_groups(&Rows { file, report }, out, groups);
 }
 
+/// Adds a line for a file that can't be read: why.
+pub(crate) fn put_unread(out: &mut Text, file: &str, why: &[u8]) {
+    out.cell_text(file.as_bytes());
+    out.say(",,,,,,,,,,,,,,,,,,");
+    out.cell(why);
+    out.say("\r\n");
+}
+
 /// Adds a line for each finding of an interchange of a file.
 pub(crate) fn put_rows<'t>(out: &mut Text, file: &'t str, report: &'t Report<'_, '_>) {
     match &report.found {
@@ -178,7 +188,7 @@ pub(crate) fn put_rows<'t>(out: &mut Text, file: &'t str, report: &'t Report<'_,
             put_front(out, file, report);
             put_whole(out, fault.coded.code.get(..1).unwrap_or(b""), fault.coded);
             put_place(out, fault);
-            out.say("\"\n");
+            out.say("\"\r\n");
         }
     }
 }

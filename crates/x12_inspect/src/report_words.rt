@@ -2,10 +2,13 @@
 
 use crate::coded::{Coded, numbered};
 use crate::fault::{Cause, Fault};
+use crate::header_words::Wrong;
+use crate::naming::name_of;
 use crate::piece::{Ink, icn, say};
 use crate::printing::{JudgedSet, Noted, Printer, print_groups, refusal};
-use crate::report::{Found, Report, counts_of};
+use crate::report::{Found, Judged, Report, Taken, counts_of};
 use crate::text::Text;
+use crate::trailer::{say_of_set, say_refusal};
 use x12_envelopes::{Delims, Header};
 use x12_judge::{ElementCode, ElementRule, GroupVerdict, SetNote, SetVerdict};
 
@@ -19,11 +22,30 @@ impl Text {
         }
         self.say(Ink::Plain);
     }
+
+    /// Adds what was found where a fault is, as a line, if there is more to say than the fault.
+    fn found_line(&mut self, fault: &Fault<'_>) {
+        if !matches!(fault.wrong, Wrong::Unsaid) {
+            self.say("  ");
+            fault.wrong.say(self);
+            self.say("\n");
+        }
+    }
+
+    /// Adds a data element by its number, and its name where it has one here.
+    pub(crate) fn element(&mut self, reference: u32) {
+        say!(self; " (", reference);
+        if let Some(name) = name_of(reference) {
+            say!(self; " ", name);
+        }
+        self.say(")");
+    }
 }
 
-/// Adds a fault, and on a line below where it is.
+/// Adds a fault, and on lines below what was found, and where it is.
 fn say_fault(out: &mut Text, fault: &Fault<'_>) {
     say!(out; fault.coded, "\n");
+    out.found_line(fault);
     let line = out.len();
     say!(out; "  at byte ", fault.at, ", in segment ", fault.segment, ": \"");
     let column = out.len().saturating_sub(line);
@@ -55,6 +77,18 @@ fn say_noted(out: &mut Text, noted: u64) {
     }
 }
 
+/// What was looked at of sets that are accepted: more of purchase orders (850) than of others.
+fn looked_at(groups: &[GroupVerdict<'_>]) -> &'static str {
+    for group in groups {
+        for set in &group.sets {
+            if set.set == *b"850" {
+                return " (structure; 850: BEG, CTT01, a PO1)";
+            }
+        }
+    }
+    " (structure alone)"
+}
+
 /// Adds how many sets of an interchange are accepted, or rejected where something is wrong.
 fn say_counts(out: &mut Text, groups: &[GroupVerdict<'_>], is_right: bool) {
     let counts = counts_of(groups);
@@ -64,6 +98,7 @@ fn say_counts(out: &mut Text, groups: &[GroupVerdict<'_>], is_right: bool) {
     if is_right {
         say!(out; ": ", Ink::Right, counts.received, " of ", counts.received, " sets accepted");
         say_noted(out, counts.noted);
+        out.say(looked_at(groups));
     } else {
         say!(out; ": ", Ink::Wrong, counts.rejected, " of ", counts.received, " sets rejected");
     }
@@ -105,7 +140,8 @@ fn say_wanted(out: &mut Text, note: &Noted<'_, '_>, place: u8, code: ElementCode
 
 /// Adds the element that a note is of, and what stands there.
 fn say_element(out: &mut Text, place: u8, reference: u16, copy: &[u8]) {
-    say!(out; ", element ", place, " (", reference, ")");
+    say!(out; ", element ", place);
+    out.element(u32::from(reference));
     out.say_copy(copy);
 }
 
@@ -128,11 +164,21 @@ fn say_note(out: &mut Text, note: &Noted<'_, '_>) {
     out.say("\n");
 }
 
-/// Adds the codes of a set, one behind another.
-fn say_codes(out: &mut Text, set: &SetVerdict<'_>) {
+/// Adds what something was found in, between brackets, if there is more to say.
+fn say_within(out: &mut Text, found: &Text) {
+    if !found.is_empty() {
+        say!(out; " (", found, ")");
+    }
+}
+
+/// Adds the codes of a set, one behind another, each with what it was found in.
+fn say_codes(out: &mut Text, delims: &Delims, set: &SetVerdict<'_>) {
     let mut between = "";
     for code in set.codes.as_slice() {
         say!(out; between, numbered("AK502", u32::from(code.number())));
+        let mut found = out.beside();
+        say_of_set(&mut found, *code, delims, set.bytes);
+        say_within(out, &found);
         between = ", ";
     }
 }
@@ -148,17 +194,23 @@ fn fares(set: &SetVerdict<'_>) -> &'static str {
 
 /// Says what is wrong, in order. That a segment has elements in error isn't said where they follow.
 #[derive(Clone, Copy)]
-struct Words {
+struct Words<'a> {
     delims: Delims,
+    /// The bytes of the interchange.
+    bytes: &'a [u8],
 }
 
-impl Printer for Words {
+impl Printer for Words<'_> {
     ghost prints = { λ printer t found u. Unit {0} };
 
     fn group(&self, out: &mut Text, group: &GroupVerdict<'_>) {
         if let Some(coded) = refusal(group) {
             say_group(out, group);
-            say!(out; ": refused: ", coded, "\n");
+            say!(out; ": refused: ", coded);
+            let mut found = out.beside();
+            say_refusal(&mut found, &self.delims, self.bytes, group);
+            say_within(out, &found);
+            out.say("\n");
         }
     }
 
@@ -168,7 +220,7 @@ impl Printer for Words {
         }
         say_group(out, at.group);
         say!(out; ", set ", at.place, ", ", &at.set.set, " ", at.set.number.as_bytes(), fares(at.set));
-        say_codes(out, at.set);
+        say_codes(out, &self.delims, at.set);
         out.say("\n");
     }
 
@@ -187,8 +239,48 @@ impl Printer for Words {
 }
 
 /// Adds what is wrong with groups that were judged.
-fn say_groups(out: &mut Text, delims: &Delims, groups: &[GroupVerdict<'_>]) {
-    print_groups(&Words { delims: *delims }, out, groups);
+fn say_groups(out: &mut Text, delims: &Delims, bytes: &[u8], groups: &[GroupVerdict<'_>]) {
+    let delims = *delims;
+    print_groups(&Words { delims, bytes }, out, groups);
+}
+
+/// Adds pairs, each once, as `PO850, IN810`.
+fn say_pairs(out: &mut Text, pairs: &[([u8; 2], [u8; 3])]) {
+    let mut between = "";
+    for (index, pair) in pairs.iter().enumerate() {
+        let (before, _) = pairs.split_at(index);
+        if !before.contains(pair) {
+            say!(out; between, &pair.0, &pair.1);
+            between = ", ";
+        }
+    }
+}
+
+/// Adds who checks and what is taken, where one of these wasn't named.
+fn say_taken(out: &mut Text, taken: &Taken<'_>) {
+    if !taken.is_receiver && !taken.are_standing {
+        return;
+    }
+    let who = if taken.is_receiver {
+        "its receiver "
+    } else {
+        ""
+    };
+    let what = if taken.are_standing {
+        "the sets in it: "
+    } else {
+        ""
+    };
+    say!(out; "  as ", who, &taken.me, ", who takes ", what);
+    say_pairs(out, taken.pairs);
+    out.say("\n");
+}
+
+/// Adds what its receiver finds of an interchange.
+fn say_judged(out: &mut Text, report: &Report<'_, '_>, delims: &Delims, judged: &Judged<'_, '_>) {
+    say_counts(out, judged.groups, report.accepted == Some(true));
+    say_taken(out, &judged.taken);
+    say_groups(out, delims, report.bytes, judged.groups);
 }
 
 /// Adds what is found of an interchange. That it can't be read stands behind its name, or, where that
@@ -204,8 +296,7 @@ pub(crate) fn say_report(out: &mut Text, report: &Report<'_, '_>) {
             say_whole(out, *coded, cause);
         }
         (Found::Judged(judged), Some(header)) => {
-            say_counts(out, judged.groups, report.accepted == Some(true));
-            say_groups(out, &header.delims, judged.groups);
+            say_judged(out, report, &header.delims, judged);
         }
         (Found::Judged(_), None) => {}
         (Found::Sendable(sets), _) => {

@@ -192,7 +192,7 @@ pub fn read_sent<'a, W: Write>(
     let read = SentFile::read(alloc, style.file, hub, input, &mut refused)?;
     let mut text = Text::new(alloc, style.look);
     if style.form == Form::Text && !refused.told.is_empty() {
-        say!(text; style.file, ":\n");
+        say!(text; style.file.as_bytes(), ":\n");
     }
     text.put_text(&refused.told);
     write_last(text.whole()?, out)?;

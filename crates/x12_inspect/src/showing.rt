@@ -4,7 +4,7 @@ ghost use Rattle.std.specs.Prelude.{IfOk};
 ghost use Rattle.x12_inspect.specs.Showing.{EndsAsShown};
 
 use crate::inspecting::{Inspector, Outcome, inspect_all};
-use crate::piece::{Filled, Ink, members, say};
+use crate::piece::{Filled, Ink, Number, members, say};
 use crate::report::{tell, unreadable};
 use crate::slice::{Interchange, Slice};
 use crate::style::{Form, Style};
@@ -56,8 +56,9 @@ fn say_placed(out: &mut Text, offset: usize, placed: &Placed<'_>) {
 /// Adds what a trailer says, as JSON.
 fn put_compared(out: &mut Text, compared: &Compared<'_>) {
     out.begin_object("trailer");
-    members!(out; "count": compared.count, "counted": compared.counted, "number": compared.number);
-    members!(out; "header": compared.header, "header_number": compared.said);
+    members!(out; "says_count": Number(compared.count), "counted": compared.counted);
+    members!(out; "says_number": compared.number, "header": compared.header);
+    out.member("header_number", compared.said);
     out.member("agrees", compared.agrees);
     out.say("}");
 }
@@ -66,8 +67,8 @@ fn put_compared(out: &mut Text, compared: &Compared<'_>) {
 fn put_placed(out: &mut Text, offset: usize, placed: &Placed<'_>) {
     out.begin_item();
     members!(out; "byte": offset.saturating_add(placed.at), "depth": placed.depth);
-    out.member_if("position", placed.position);
-    out.member("segment", placed.bytes);
+    out.member_if("segment", placed.position);
+    out.member("text", placed.bytes);
     if let Some(compared) = &placed.compared {
         put_compared(out, compared);
     }

@@ -31,4 +31,6 @@ pub struct Style<'a> {
     pub look: Look,
     /// The name of the file, which JSON and CSV tell.
     pub file: &'a str,
+    /// Whether nothing is said of what is right, and the name of the file of what isn't.
+    pub is_quiet: bool,
 }

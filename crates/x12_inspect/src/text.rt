@@ -8,6 +8,7 @@ use std::str;
 /// What was gathered so far.
 #[derive(Drop)]
 pub(crate) struct Text {
+    alloc: Global,
     bytes: Vec<u8>,
     failed: bool,
     look: Look,
@@ -40,23 +41,49 @@ fn unquotable(form: Form) -> &'static [u8] {
     }
 }
 
-/// The letter that stands for a byte behind a backslash in a text of JSON, if one does.
-fn escape_of(b: u8) -> Option<u8> {
-    match b {
-        b'"' | b'\\' => Some(b),
-        0x08 => Some(b'b'),
-        0x0C => Some(b'f'),
-        b'\n' => Some(b'n'),
-        b'\r' => Some(b'r'),
-        b'\t' => Some(b't'),
+/// The letter that stands for another behind a backslash in a text of JSON, if one does.
+fn escape_of(c: char) -> Option<u8> {
+    match c {
+        '"' => Some(b'"'),
+        '\\' => Some(b'\\'),
+        '\u{8}' => Some(b'b'),
+        '\u{C}' => Some(b'f'),
+        '\n' => Some(b'n'),
+        '\r' => Some(b'r'),
+        '\t' => Some(b't'),
         _ => None,
     }
+}
+
+/// Whether a letter does something to a terminal in place of showing there: a control, a mark of
+/// direction (Unicode, UAX 9), a line separator or a byte order mark.
+pub(crate) fn is_hidden(number: u32) -> bool {
+    matches!(
+        number,
+        0..=0x1F
+            | 0x7F..=0x9F
+            | 0x61C
+            | 0x200E..=0x200F
+            | 0x2028..=0x202E
+            | 0x2066..=0x2069
+            | 0xFEFF
+    )
+}
+
+/// A name as a terminal may have it: without controls and marks of direction.
+pub fn shown(alloc: Global, name: &str) -> Result<String, AllocError> {
+    let mut text = Text::new(alloc, Look::Plain);
+    text.within(Form::Text, name.as_bytes());
+    let mut shown = String::new(alloc);
+    shown.push_str(str::from_utf8(text.whole()?).unwrap_or(""))?;
+    Ok(shown)
 }
 
 impl Text {
     /// Nothing yet, to be set out so.
     pub(crate) fn new(alloc: Global, look: Look) -> Text {
         Text {
+            alloc,
             bytes: Vec::new(alloc),
             failed: false,
             look,
@@ -68,6 +95,11 @@ impl Text {
         self.look
     }
 
+    /// Nothing yet, for words that are added to this one later.
+    pub(crate) fn beside(&self) -> Text {
+        Text::new(self.alloc, Look::Plain)
+    }
+
     /// Adds bytes as they are.
     pub(crate) fn put(&mut self, bytes: &[u8]) {
         if self.bytes.extend_from_slice(bytes).is_err() {
@@ -75,63 +107,79 @@ impl Text {
         }
     }
 
-    /// Adds one of several bytes: as it is, or as a letter of Latin-1 where they aren't UTF-8.
-    fn letter(&mut self, are_utf8: bool, b: u8) {
-        if are_utf8 || b < 0x80 {
-            self.put(&[b]);
-        } else {
-            self.put(&[0xC0 | (b >> 6), 0x80 | (b & 0x3F)]);
-        }
-    }
-
-    /// Adds one of several bytes as a person reads it: a control byte as `<0D>`.
-    fn shown_letter(&mut self, are_utf8: bool, b: u8) {
-        if b < 0x20 || b == 0x7F {
-            self.put(&[b'<', digit(b >> 4, b'7'), digit(b & 15, b'7'), b'>']);
-        } else {
-            self.letter(are_utf8, b);
-        }
-    }
-
-    /// Adds a byte of a text of JSON, behind a backslash where it has to be.
-    fn escaped(&mut self, are_utf8: bool, b: u8) {
-        if let Some(letter) = escape_of(b) {
-            self.put(&[b'\\', letter]);
-        } else if b < 0x20 {
+    /// Adds a number below 65,536 in four hexadecimal digits, or in the last two of them.
+    fn hexadecimal(&mut self, number: u32, is_short: bool, letters: u8) {
+        if !is_short {
             self.put(&[
-                b'\\',
-                b'u',
-                b'0',
-                b'0',
-                digit(b >> 4, b'W'),
-                digit(b & 15, b'W'),
+                digit(((number >> 12) & 15) as u8, letters),
+                digit(((number >> 8) & 15) as u8, letters),
             ]);
+        }
+        self.put(&[
+            digit(((number >> 4) & 15) as u8, letters),
+            digit((number & 15) as u8, letters),
+        ]);
+    }
+
+    /// Adds a letter as it is.
+    fn plain_letter(&mut self, c: char) {
+        let mut room = [0; 4];
+        self.put(c.encode_utf8(&mut room).as_bytes());
+    }
+
+    /// Adds a letter as a person reads it: a control as `<0D>`, a mark of direction as `<U+202E>`.
+    fn shown_letter(&mut self, c: char) {
+        let number = u32::from(c);
+        if !is_hidden(number) {
+            return self.plain_letter(c);
+        }
+        let is_short = number < 0x100;
+        self.put(if is_short { b"<" } else { b"<U+" });
+        self.hexadecimal(number, is_short, b'7');
+        self.put(b">");
+    }
+
+    /// Adds a letter of a text of JSON, behind a backslash where it has to be.
+    fn escaped(&mut self, c: char) {
+        if let Some(letter) = escape_of(c) {
+            self.put(&[b'\\', letter]);
+        } else if is_hidden(u32::from(c)) {
+            self.put(b"\\u");
+            self.hexadecimal(u32::from(c), false, b'W');
         } else {
-            self.letter(are_utf8, b);
+            self.plain_letter(c);
         }
     }
 
-    /// Adds one of several bytes as this form has it.
-    fn formed(&mut self, form: Form, are_utf8: bool, b: u8) {
+    /// Adds a letter as this form has it.
+    fn formed(&mut self, form: Form, c: char) {
         if form == Form::Json {
-            self.escaped(are_utf8, b);
-        } else if form == Form::Csv && b == b'"' {
+            self.escaped(c);
+        } else if form == Form::Csv && c == '"' {
             self.put(b"\"\"");
         } else {
-            self.shown_letter(are_utf8, b);
+            self.shown_letter(c);
         }
     }
 
-    /// Adds bytes as a person reads them: a control byte as its two hexadecimal digits, as `<0D>`. In
-    /// JSON it is what stands between the quotes of a text; in CSV what a person reads, with each quote
-    /// twice. Bytes that aren't UTF-8 are told as Latin-1.
+    /// Adds bytes as a person reads them: a control as its two hexadecimal digits, as `<0D>`, a mark of
+    /// direction as `<U+202E>`. In JSON it is what stands between the quotes of a text; in CSV what a
+    /// person reads, with each quote twice. Bytes that aren't UTF-8 are told as Latin-1.
     pub(crate) fn within(&mut self, form: Form, bytes: &[u8]) {
         if are_plain(bytes, unquotable(form)) {
             return self.put(bytes);
         }
-        let are_utf8 = str::from_utf8(bytes).is_ok();
-        for b in bytes {
-            self.formed(form, are_utf8, *b);
+        match str::from_utf8(bytes) {
+            Ok(text) => {
+                for c in text.chars() {
+                    self.formed(form, c);
+                }
+            }
+            Err(_) => {
+                for b in bytes {
+                    self.formed(form, char::from(*b));
+                }
+            }
         }
     }
 
