@@ -12,17 +12,15 @@ import re
 import subprocess
 import sys
 
-TOP = os.path.dirname(os.path.dirname(os.path.realpath(__file__)))
+sys.dont_write_bytecode = True
+HERE = os.path.dirname(os.path.realpath(__file__))
+TOP = os.path.dirname(HERE)
+sys.path.insert(0, f"{HERE}/tools")
+from tally import Tally
+
 PAGES = ["README.md", *sorted(os.path.relpath(it, TOP) for form in ("docs/*.md", "crates/*/README.md") for it in glob.glob(f"{TOP}/{form}"))]
 FAMILIES = "H N O S B V L TA1 TA104 AK304 AK403 AK501 AK502 AK901 AK905".split()
-passed = failed = 0
-
-
-def count(is_right, name, said=""):
-    global passed, failed
-    passed, failed = passed + bool(is_right), failed + (not is_right)
-    if not is_right:
-        print(f"{name}: {said}")
+TALLY = Tally("examples")
 
 
 def text_of(path):
@@ -43,8 +41,8 @@ def try_examples():
              re.findall(r"^    (?:\./)?(van (?:check|show|explain).*)\n((?:    .*\n)*)", text_of(page), re.M)]
     for page, (command, wanted) in found:
         out = run(command)
-        count(out == re.sub(r"^    ", "", wanted, flags=re.M), f"{page}: {command}", out[:300])
-    count("docs/van.md" in dict(found), "docs/van.md has no example")
+        TALLY.want(f"{page}: {command}", out == re.sub(r"^    ", "", wanted, flags=re.M), out[:300])
+    TALLY.want("docs/van.md has no example", "docs/van.md" in dict(found))
 
 
 def first_line(text, word):
@@ -66,12 +64,12 @@ def try_words():
     for word in ("answer", "script", "report"):
         texts = {"the help": run(f"vanlab {word} --help"), **{it: text_of(it) for it in PAGES}}
         found = {name: first_line(text, word) for name, text in texts.items() if first_line(text, word)}
-        count(len(found) > 1 and "the help" in found, f"{word}: no page and help run it", list(found))
+        TALLY.want(f"{word}: no page and help run it", len(found) > 1 and "the help" in found, list(found))
         for name, (words, path) in found.items():
             # the words of `answer` are run on the stored order, whatever its file is called there
             path = "samples/order.edi" if word == "answer" else path
             is_sample = path.startswith("samples/") and os.path.isfile(f"{TOP}/{path}")
-            count(is_sample and run(f"vanlab {words} < {path}") == stored(word, path), f"{name}: {word}", path)
+            TALLY.want(f"{name}: {word}", is_sample and run(f"vanlab {words} < {path}") == stored(word, path), path)
 
 
 def try_codes():
@@ -81,12 +79,11 @@ def try_codes():
         lines = run(f"van explain --code {family}").split("\n")
         rows += [(code, action.strip()) for code, action in zip(lines[::2], lines[1::2])]
     lost = [it for it in rows if f"| {it[0].partition(': ')[0]} | {it[0].partition(': ')[2]} | {it[1]} |" not in page]
-    count(rows and not lost, "docs/codes.md", lost[:3])
+    TALLY.want("docs/codes.md", rows and not lost, lost[:3])
 
 
 if __name__ == "__main__":
     try_examples()
     try_words()
     try_codes()
-    print(f"{passed} passed, {failed} failed")
-    sys.exit(failed > 0)
+    sys.exit(TALLY.end())

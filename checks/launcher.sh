@@ -34,8 +34,7 @@ make() {
   mkdir -p "$dir"/top/crates/{van,vanlab,x12_mailbox,x12_numbers}/src "$dir"/top/checks/tools "$dir"/{bin,empty,tmp}
   for tool in bash basename cat dirname find grep readlink; do ln -s "$(command -v $tool)" "$dir/empty/$tool"; done
   ln -s "$(python3 -c 'import sys; print(sys.executable)')" "$dir/empty/python3"
-  cp van prove "$dir/top"
-  ln -s van "$dir/top/vanlab"
+  cp -P van vanlab prove "$dir/top"
   cp checks/tools/{build,prove,crates}.py "$dir/top/checks/tools"
   printf '%s\n' 'x12_numbers:' 'x12_mailbox: x12_numbers' 'van: x12_mailbox' 'vanlab: x12_numbers' >"$dir/top/crates.txt"
   for name in van vanlab x12_mailbox x12_numbers; do echo 'fn main() {}' >"$dir/top/crates/$name/src/main.rt"; done

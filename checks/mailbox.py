@@ -29,7 +29,7 @@ sys.path[:0] = [f"{HERE}/mailbox", f"{HERE}/tools"]
 from carriers import try_far, try_hubs_losses, try_hubs_ring, try_losses, try_twice
 from changes import try_verify
 from kills import try_kills, try_terminal, try_two, try_watched
-from places import CLOCK, Place, Tally
+from places import CLOCK, Mailboxes, Place
 from refusals import try_full, try_refused
 
 PAGE = f"{TOP}/docs/mailbox.md"
@@ -97,13 +97,12 @@ def stories(asked):
 
 def main():
     asked = asked_of(sys.argv[1:])
-    tally, program = Tally(), os.path.abspath(asked.program)
+    tally, program = Mailboxes("mailbox"), os.path.abspath(asked.program)
     with tempfile.TemporaryDirectory(prefix="mailbox-") as room:
         for name, story in stories(asked).items():
             if asked.only in (None, name):
                 story(tally, program, room)
-    print(f"{tally.passed} passed, {tally.failed} failed")
-    return 1 if tally.failed or not tally.passed else 0
+    return tally.end()
 
 
 if __name__ == "__main__":

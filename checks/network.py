@@ -6,7 +6,6 @@ no line says BAD. Records in files are read by another SQLite; a terminal is one
 is in checks/rows/network.txt. The last line is 'N passed, M failed'.
 """
 import os
-import pty
 import random
 import re
 import sqlite3
@@ -19,22 +18,15 @@ sys.dont_write_bytecode = True
 HERE = os.path.dirname(os.path.realpath(__file__))
 sys.path.insert(0, f"{HERE}/tools")
 from crates import processors
+from tally import Tally
+from terminal import on_terminal
 
 PROGRAM = f"{os.path.dirname(HERE)}/crates/vanlab/out/vanlab"
 
 LINE = re.compile(r"ZZ/(ST[0-9]{2})            ([0-9]{9}) 01 001 ZZ/(ST[0-9]{2})            "
                   r"(?:accepted    1|rejected    0|pending     [01]) ok")
 FIRST = {"stations": 2, "hubs": 1, "orders": 20, "lose": 0, "double": 0, "hold": 0, "turns": 100000}
-passed = failed = 0
-
-
-def count(is_right, name, said=""):
-    global passed, failed
-    if is_right:
-        passed += 1
-    else:
-        failed += 1
-        print(f"{name}: {said}")
+TALLY = Tally("network")
 
 
 def run(words):
@@ -77,7 +69,7 @@ def try_losses():
             is_so = is_report(out, options) and "pending" not in out and (err, status) == ("", 0)
             if not (is_so and "rejected" in out):
                 break
-        count(is_so and "rejected" not in out, f"{options}", f"{status} {err} {out[:300]}")
+        TALLY.want(f"{options}", is_so and "rejected" not in out, f"{status} {err} {out[:300]}")
 
 
 def some_network(pick):
@@ -102,7 +94,7 @@ def try_random():
     with ThreadPoolExecutor(processors()) as pool:
         for options, told in zip(networks, pool.map(lambda it: run(words_of(it)), networks)):
             out, err, status = told
-            count(is_report(out, options) and (err, status) == ("", 0), " ".join(words_of(options)), f"{status} {err} {out[:300]}")
+            TALLY.want(" ".join(words_of(options)), is_report(out, options) and (err, status) == ("", 0), f"{status} {err} {out[:300]}")
 
 
 def rows_in(folder):
@@ -126,60 +118,47 @@ def bytes_in(folder):
     return found
 
 
+def try_records(name, folder, stations, hubs):
+    """Records in files of a new folder, one a node: the same report, and the postings stand in the files."""
+    options = {"hubs": len(hubs), "stations": stations, "orders": 4, "lose": 5, "double": 4}
+    out, err, status = run([*words_of(options), "--sqlite", folder])
+    is_so = is_report(out, options) and "pending" not in out and "rejected" not in out
+    TALLY.want(name, is_so and (err, status) == ("", 0), f"{status} {err} {out[:300]}")
+    its, files = [f"ST{it + 1:02}.db" for it in range(stations)], set(os.listdir(folder))
+    TALLY.want(f"{name}, one a node", {*hubs, *its} <= files, files)
+    TALLY.want(f"{name}, postings", rows_in(folder) == {it: (4, 0) for it in its}, rows_in(folder))
+
+
 def try_files():
-    """Records in files, one a node: the same report, and the postings stand in the files. A folder that holds something
-    is refused, and left as it is; so is what is no folder."""
+    """Records in files. A folder that holds something is refused, and left as it is; so is what is no folder."""
     with tempfile.TemporaryDirectory() as room:
         folder = f"{room}/new/records"
-        options = {"stations": 3, "orders": 4, "lose": 5, "double": 4}
-        out, err, status = run([*words_of(options), "--sqlite", folder])
-        is_so = is_report(out, options) and "pending" not in out and "rejected" not in out
-        count(is_so and (err, status) == ("", 0), "records in files", f"{status} {err} {out[:300]}")
+        try_records("records in files", folder, 3, ["HUB.db"])
         before = bytes_in(folder)
-        count({"HUB.db", "ST01.db", "ST02.db", "ST03.db"} <= set(before), "a file a node", sorted(before))
         for wrong, why in ((folder, "isn't empty"), (f"{folder}/HUB.db", "can't be used as a folder"), ("", "can't be used")):
             out, err, status = run(["--sqlite", wrong])
             is_said = err.startswith(f"error: {wrong}: ") and why in err and err.count("\n") == 1
-            count(is_said and (out, status) == ("", 1), f"--sqlite {wrong}", f"{status} {err}")
-        count(bytes_in(folder) == before, "a folder that was refused")
-        count(rows_in(folder) == {f"ST{it:02}.db": (4, 0) for it in (1, 2, 3)}, "postings in files", rows_in(folder))
-        folder = f"{room}/two"
-        options = {"hubs": 2, "stations": 4, "orders": 4, "lose": 5, "double": 4}
-        out, err, status = run([*words_of(options), "--sqlite", folder])
-        is_so = is_report(out, options) and "pending" not in out and "rejected" not in out
-        count(is_so and (err, status) == ("", 0), "records of two hubs in files", f"{status} {err} {out[:300]}")
-        files = set(os.listdir(folder))
-        count({"HUB.db", "HUB2.db", "ST01.db", "ST02.db", "ST03.db", "ST04.db"} <= files, "a file a hub", files)
-        count(rows_in(folder) == {f"ST{it:02}.db": (4, 0) for it in (1, 2, 3, 4)}, "postings behind two hubs", rows_in(folder))
+            TALLY.want(f"--sqlite {wrong}", is_said and (out, status) == ("", 1), f"{status} {err}")
+        TALLY.want("a folder that was refused", bytes_in(folder) == before)
+        try_records("records of two hubs in files", f"{room}/two", 4, ["HUB.db", "HUB2.db"])
 
 
-def on_terminal(words):
-    """What a network prints, and what it says on a terminal that is its standard error."""
-    ours, its = pty.openpty()
-    running = subprocess.Popen([PROGRAM, "network", *words], stdout=subprocess.PIPE, stderr=its)
-    os.close(its)
-    with ThreadPoolExecutor(1) as pool:
-        out = pool.submit(running.stdout.read)
-        said = b""
-        try:
-            while more := os.read(ours, 4096):
-                said += more
-        except OSError:  # the terminal's other end is closed
-            pass
-        os.close(ours)
-        return out.result().decode(), said.decode(), running.wait()
+def on_screen(options, *more):
+    """The status of a network, what it prints, and what it says on a terminal that is its standard error."""
+    status, out, said = on_terminal([PROGRAM, "network", *words_of(options), *more], "stderr", stdout=subprocess.PIPE)
+    return status, out.decode(), said.decode()
 
 
 def try_terminal():
     """On a terminal one line says how the network stands; it is written anew, and gone at the end."""
     options = {"stations": 4, "orders": 30, "lose": 7}
-    out, said, status = on_terminal(words_of(options))
+    status, out, said = on_screen(options)
     shown = re.fullmatch(r"((?:\r\d+ events, \d+ open, turn \d+ )+)\r\x1b\[K", said)
     events = [int(it) for it in re.findall(r"(\d+) events", said)]
-    count(is_report(out, options) and status == 0 and shown and len(events) > 2 and max(events) > 100,
-          "a line on a terminal", f"{status} {said[:300]!r}")
-    out, said, status = on_terminal([*words_of(options), "--quiet"])
-    count(is_report(out, options) and (said, status) == ("", 0), "--quiet", f"{status} {said!r}")
+    TALLY.want("a line on a terminal", is_report(out, options) and status == 0 and shown and len(events) > 2 and max(events) > 100,
+               f"{status} {said[:300]!r}")
+    status, out, said = on_screen(options, "--quiet")
+    TALLY.want("--quiet", is_report(out, options) and (said, status) == ("", 0), f"{status} {said!r}")
 
 
 if __name__ == "__main__":
@@ -187,5 +166,4 @@ if __name__ == "__main__":
     try_random()
     try_files()
     try_terminal()
-    print(f"{passed} passed, {failed} failed")
-    sys.exit(failed > 0)
+    sys.exit(TALLY.end())

@@ -25,15 +25,10 @@ HERE = os.path.dirname(os.path.realpath(__file__))
 TOP = os.path.dirname(HERE)
 sys.path.insert(0, f"{HERE}/tools")
 from manual import completion, manuals, pages_of, said
+from tally import Tally
 
-COUNTS = [0, 0]
+TALLY = Tally("package")
 OPTION = re.compile(r"(?<![\w-])--?[A-Za-z][\w-]*")
-
-
-def want(what, holds):
-    COUNTS[0 if holds else 1] += 1
-    if not holds:
-        print(f"package: {what}")
 
 
 def spaced(text):
@@ -63,8 +58,8 @@ def are_alike(path, program, room):
     """Holds the help of a program, as it says it, against its manual pages and its completion."""
     pages = pages_of(path, program)
     texts, script, commands = manuals(pages), completion(pages), pages[0].commands()
-    want(f"{program}: a page for each command, {sorted(texts)}", len(texts) == len(commands) + 1)
-    want(f"{program}: the commands are offered", offers(script, program, "") == sorted([*commands, "help", *OPTION.findall(
+    TALLY.want(f"{program}: a page for each command, {sorted(texts)}", len(texts) == len(commands) + 1)
+    TALLY.want(f"{program}: the commands are offered", offers(script, program, "") == sorted([*commands, "help", *OPTION.findall(
         said(path, program, "--help").split("\nOptions:\n")[1])]))
     for page in pages:
         words = [page.command] if page.command else []
@@ -74,12 +69,12 @@ def are_alike(path, program, room):
         text, warned = shown(texts[f"{page.name}.1"], room)
         lines = text.split("\nOPTIONS\n")[1].split("\nEX")[0].split("\nNOTES")[0].split("\nSEE ALSO")[0].split("\n")
         has = {it for line in lines if re.match(r" {7}-", line) for it in OPTION.findall(re.split(r" {2,}|<", line.strip())[0])}
-        want(f"{page.name}: the options {wanted} in its page {sorted(has)}", sorted(has) == wanted and not warned)
+        TALLY.want(f"{page.name}: the options {wanted} in its page {sorted(has)}", sorted(has) == wanted and not warned)
         for line in help_text.split("\n"):
             says = re.match(r" {2,6}\S.*? {2,}(\S.*)$", line)
-            want(f"{page.name}: {line.strip()}", not says or spaced(says[1]) in spaced(text))
+            TALLY.want(f"{page.name}: {line.strip()}", not says or spaced(says[1]) in spaced(text))
         if page.command:
-            want(f"{page.name}: its options are offered", offers(script, program, page.command, "-") == wanted)
+            TALLY.want(f"{page.name}: its options are offered", offers(script, program, page.command, "-") == wanted)
 
 
 def files_in(root):
@@ -102,24 +97,24 @@ def is_installed(root):
     shutil.copy(deb, f"{root}/tmp/it.deb")
     status, told = inside(root, "dpkg -i /tmp/it.deb")
     os.remove(f"{root}/tmp/it.deb")
-    want(f"it is installed: {told}", status == 0 and os.path.isdir(f"{root}/var/lib/van"))
+    TALLY.want(f"it is installed: {told}", status == 0 and os.path.isdir(f"{root}/var/lib/van"))
     shutil.copy(f"{TOP}/samples/rejected.edi", f"{root}/tmp/sample.edi")
     status, told = inside(root, "cd /tmp && van check --me ZZBETA PO850 sample.edi", "nobody")
-    want(f"nobody checks a file: {told}", status == 1 and told.startswith("interchange 1, 000000001, ZZ/ALPHA to ZZ/BETA: 1 of 1 sets rejected\n"))
+    TALLY.want(f"nobody checks a file: {told}", status == 1 and told.startswith("interchange 1, 000000001, ZZ/ALPHA to ZZ/BETA: 1 of 1 sets rejected\n"))
     turns = "cd $(mktemp -d) && van init hub --me ZZHUB --is-hub && van enrol hub ZZALPHA && van status hub && rm -r hub && rmdir $PWD"
     wanted = "hub ZZ/HUB in hub\nZZ/ALPHA has mailbox 1: hub/ZZALPHA\nZZ/ALPHA mailbox 1: 0 waiting\n"
-    want("nobody makes a mailbox", inside(root, turns, "nobody") == (0, wanted))
-    want("the user of mailboxes makes one", inside(root, "van init /var/lib/van/hub --me ZZHUB --is-hub", "van:van")[0] == 0)
+    TALLY.want("nobody makes a mailbox", inside(root, turns, "nobody") == (0, wanted))
+    TALLY.want("the user of mailboxes makes one", inside(root, "van init /var/lib/van/hub --me ZZHUB --is-hub", "van:van")[0] == 0)
     status, told = inside(root, "dpkg -P mushegbo")
-    want(f"a purge keeps mailboxes and their user: {told}", status == 0 and os.path.exists(f"{root}/var/lib/van/hub/records.db"))
+    TALLY.want(f"a purge keeps mailboxes and their user: {told}", status == 0 and os.path.exists(f"{root}/var/lib/van/hub/records.db"))
     shutil.rmtree(f"{root}/var/lib/van/hub")
     shutil.copy(deb, f"{root}/tmp/it.deb")
     status, told = inside(root, "dpkg -i /tmp/it.deb && dpkg -P mushegbo; e=$?; rm /tmp/it.deb /tmp/sample.edi; exit $e")
-    want(f"a purge: {told}", status == 0)
+    TALLY.want(f"a purge: {told}", status == 0)
     # dpkg, useradd and userdel keep logs and copies of their own files
     of_dpkg = re.compile(r"/var/(log|lib/dpkg|cache)/|/etc/(passwd|group|shadow|gshadow|subuid|subgid|\.pwd\.lock)")
     left = [it for it in set(files_in(root)) ^ set(before) if not of_dpkg.search(it)]
-    want(f"a purge leaves no trace: {left}", not left and open(f"{root}/etc/passwd", encoding="utf-8").read() == users)
+    TALLY.want(f"a purge leaves no trace: {left}", not left and open(f"{root}/etc/passwd", encoding="utf-8").read() == users)
 
 
 def main(words):
@@ -135,8 +130,7 @@ def main(words):
         are_alike(os.path.abspath(vanlab), "vanlab", room)
     if root:
         is_installed(root)
-    print(f"{COUNTS[0]} passed, {COUNTS[1]} failed")
-    return 1 if COUNTS[1] else 0
+    return TALLY.end()
 
 
 if __name__ == "__main__":

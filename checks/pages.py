@@ -14,8 +14,9 @@ import sys
 sys.dont_write_bytecode = True
 HERE = os.path.dirname(os.path.realpath(__file__))
 sys.path[:0] = [HERE, f"{HERE}/tools"]
-from contracts import Sources, files_of, words_in
+from contracts import Sources
 from refusals import tables
+from source_text import files_of, words_in
 
 
 def comment_above(lines, number):
@@ -39,7 +40,7 @@ def model():
     """The definitions that public contracts cite, as tables."""
     cited, lines, crate = Sources().cited(), ["# The definitions that public contracts cite"], None
     for name, path, said in definitions():
-        if name in cited and not path.split("/")[0].endswith("_tests"):
+        if name in cited and not path.startswith("proved_callers/"):
             if path.split("/")[0] != crate:
                 crate = path.split("/")[0]
                 lines.append(f"\n## {crate}\n\n| Definition | Says | File |\n|---|---|---|")

@@ -25,7 +25,13 @@ import subprocess
 import sys
 import tempfile
 
-TOP = os.path.dirname(os.path.dirname(os.path.realpath(__file__)))
+sys.dont_write_bytecode = True
+HERE = os.path.dirname(os.path.realpath(__file__))
+TOP = os.path.dirname(HERE)
+sys.path[:0] = [f"{HERE}/mailbox", f"{HERE}/tools"]
+from places import Place, order, take_posted
+from tally import Tally
+
 # The commands of the exchange, in their order.
 COMMANDS = [
     "init hub --me ZZHUB --is-hub", "enrol hub ZZALPHA", "enrol hub ZZBETA",
@@ -38,8 +44,6 @@ TURNS = "for n in 1 2 3; do for who in alpha hub beta hub alpha; do ./van run $w
 CALLS = "openat,open,creat,write,pwrite64,writev,pwritev,ftruncate,fsync,fdatasync,rename,renameat,renameat2,unlink,unlinkat," \
     "mkdir,mkdirat,link,linkat,symlink,symlinkat,dup,dup2,fcntl,close"
 SET = "ST*850*0001~BEG*00*SA*PO-1**20250102~PO1*1*10*EA*5~SE*4*0001~"
-ISA = "ISA*00*          *00*          *ZZ*ALPHA          *ZZ*BETA           *250102*0930*U*00401*000000001*0*P*:~"
-ORDER = f"{ISA}GS*PO*ALPHA*BETA*20250102*0930*1*X*004010~{SET}GE*1*1~IEA*1*000000001~"
 MOST = 16  # combinations behind one call
 
 # --- What was called ----------------------------------------------------------------------------------------------------
@@ -208,12 +212,6 @@ def build(folder, state):
 # --- Going on -----------------------------------------------------------------------------------------------------------
 
 
-def run(folder, command):
-    how = {"stdin": subprocess.DEVNULL, "stdout": subprocess.PIPE, "stderr": subprocess.PIPE, "text": True}
-    ran = subprocess.run(["bash", "-c", command], cwd=folder, timeout=300, check=False, **how)
-    return ran.returncode, ran.stdout, ran.stderr
-
-
 def recorded(folder, command):
     """The log of a command under strace, or None where none can be made."""
     log = f"{folder}.calls"
@@ -230,29 +228,17 @@ def recorded(folder, command):
         return file.read()
 
 
-def take_posted(folder):
-    """What an order system takes away."""
-    taken = []
-    if os.path.isdir(f"{folder}/beta/posted"):
-        for name in sorted(os.listdir(f"{folder}/beta/posted")):
-            if not name.startswith("."):
-                with open(f"{folder}/beta/posted/{name}", encoding="latin-1") as file:
-                    taken.append((name, file.read()))
-                os.remove(f"{folder}/beta/posted/{name}")
-    return taken
-
-
-def goes_on(folder, state):
+def goes_on(place, state):
     """What is wrong with how the next runs go on from a state; '' where nothing is."""
-    build(folder, state)
-    taken = take_posted(folder)
-    run(folder, AGAIN)
-    run(folder, TURNS)
-    taken += take_posted(folder)
-    wanted = [("ZZALPHA-000000001-01-001.850", SET)]
-    if taken != wanted:
-        return f"handed over {taken}: {run(folder, 'cat turns')[1][-600:]}"
-    status, out, err = run(folder, "./van reconcile alpha beta && ./van verify alpha && ./van verify beta")
+    build(place.folder, state)
+    taken = []
+    take_posted(place, taken)
+    place.run(AGAIN)
+    place.run(TURNS)
+    take_posted(place, taken)
+    if taken != [("ZZALPHA-000000001-01-001.850", SET.encode())]:
+        return f"handed over {taken}: {place.run('cat turns')[1][-600:]}"
+    status, out, err = place.run("./van reconcile alpha beta && ./van verify alpha && ./van verify beta")
     if status or err or len(re.findall(r"accepted +1 ok$", out, re.M)) != 1:
         return f"status {status}: {out} {err}"
     return ""
@@ -295,28 +281,19 @@ def main():
     asked = reading.parse_args()
     draw = random.Random(asked.seed)
     with tempfile.TemporaryDirectory(prefix="power-") as room:
-        folder = os.path.realpath(f"{room}/place")
-        os.mkdir(folder)
-        shutil.copyfile(asked.program, f"{folder}/van")
-        os.chmod(f"{folder}/van", 0o755)
-        with open(f"{folder}/order.edi", "w", encoding="ascii") as file:
-            file.write(ORDER)
-        states = states_of(folder, draw)
+        place, tally = Place(os.path.abspath(asked.program), os.path.realpath(room), "place"), Tally("power")
+        place.write("order.edi", order("ALPHA", "BETA", 1))
+        states = states_of(place.folder, draw)
         if states is None:
-            print("power: strace can't record calls here, so this wasn't tried")
-            print("0 passed, 0 failed")
+            print("power: strace can't record calls here, so this wasn't tried\n0 passed, 0 failed")
             return 0
         chosen = [it for it in states if asked.only in it[0]]
         chosen = chosen if asked.all else drawn(chosen, asked.states, draw)
-        failed = 0
         for where, state in chosen:
-            wrong = goes_on(folder, state)
-            if wrong:
-                failed += 1
-                print(f"power, {where}: {wrong}")
+            wrong = goes_on(place, state)
+            tally.want(where, not wrong, wrong)
         print(f"power: {len(states)} disks, {len(chosen)} tried")
-        print(f"{len(chosen) - failed} passed, {failed} failed")
-        return 1 if failed else 0
+        return tally.end()
 
 
 if __name__ == "__main__":

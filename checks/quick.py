@@ -25,6 +25,7 @@ import unproved
 from crates import KIT, PARTS, crates_of, processors
 from gate import PROGRAMS, ignored
 from source_text import functions_in
+from tests import lay_out
 
 OF_TEXTS = ["sources.py", "documents.py"]
 OF_PROGRAMS = ["rows.py", "laws.py", "examples.py", "fuzz.py", "launcher.sh", "network.py"]
@@ -46,6 +47,12 @@ def layout(crate):
     files = [f"{at}/{name}" for part in PARTS for at, _, names in os.walk(f"{crate.folder}/{part}") for name in names]
     said, passed, failed = ran([f"{KIT}/bin/rattle", "fmt", "--check", *sorted(files)], crate.folder)
     return "" if passed else f"{crate.name}: run rt fmt in its folder\n{said[-500:]}", passed, failed
+
+
+def layout_of_tests():
+    """The same of the files of tests/."""
+    other = lay_out(False)
+    return f"{', '.join(other)}: run checks/tests.py --fmt" if other else "", int(not other), len(other)
 
 
 def changed_lines(path):
@@ -99,7 +106,7 @@ def main():
         programs = lanes.submit(over_programs)
         tests = lanes.submit(ran, ["checks/tests.py", "--native"], TOP)
         told = [ran([f"checks/{name}"], TOP) for name in OF_TEXTS]
-        told += [layout(it) for it in crates]
+        told += [layout_of_tests(), *map(layout, crates)]
         told += [prove_changed(it) for it in crates]
         told += [*programs.result(), tests.result()]
     for said, _, failed in told:

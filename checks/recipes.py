@@ -24,6 +24,7 @@ HERE = os.path.dirname(os.path.realpath(__file__))
 TOP = os.path.dirname(HERE)
 sys.path[:0] = [HERE, f"{HERE}/tools"]
 from crates import crates_of
+from tally import Tally
 from unproved import build_program
 
 PAGE = f"{TOP}/docs/mailbox.md"
@@ -37,16 +38,10 @@ MINUTES = range(60)
 class Room:
     """The machines of the page, side by side in one folder, and what passed there."""
 
-    def __init__(self, program, folder):
-        self.folder, self.passed, self.failed = folder, 0, 0
+    def __init__(self, program, folder, tally):
+        self.folder, self.want = folder, tally.want
         os.mkdir(folder)
         os.symlink(program, f"{folder}/van")
-
-    def want(self, name, is_so, said=""):
-        self.passed += bool(is_so)
-        self.failed += not is_so
-        if not is_so:
-            print(f"recipes, {name}: {said}".rstrip())
 
     def run(self, command):
         """The status of a line of the page in this room, and what it wrote: a host is no other machine here."""
@@ -159,13 +154,13 @@ def read(path):
 
 
 def main(words):
-    text, first = read(PAGE), read(FIRST_PAGE)
+    text, first, tally = read(PAGE), read(FIRST_PAGE), Tally("recipes")
     with tempfile.TemporaryDirectory(prefix="recipes-") as folder:
         program = os.path.realpath(words[0]) if words else f"{TOP}/crates/{PROGRAM}/out/{PROGRAM}"
         if not os.path.isfile(program):
             program = f"{folder}/{PROGRAM}"
             build_program(next(it for it in crates_of(TOP) if it.name == PROGRAM), program)
-        rooms = [Room(program, f"{folder}/{name}") for name in ("first", "carried")]
+        rooms = [Room(program, f"{folder}/{name}", tally) for name in ("first", "carried")]
         first_page(rooms[0], first)
         crontab(rooms[0], text)
         unit(rooms[0], text)
@@ -174,9 +169,7 @@ def main(words):
             hubs(rooms[1], text)
         else:
             print("recipes: rsync isn't there, so its lines weren't tried")
-        passed, failed = (sum(counts) for counts in zip(*[(it.passed, it.failed) for it in rooms]))
-        print(f"{passed} passed, {failed} failed")
-        return 1 if failed else 0
+        return tally.end()
 
 
 if __name__ == "__main__":

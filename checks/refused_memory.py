@@ -30,7 +30,6 @@ import re
 import subprocess
 import sys
 import tempfile
-import threading
 from concurrent.futures import ThreadPoolExecutor
 
 sys.dont_write_bytecode = True
@@ -38,27 +37,28 @@ HERE = os.path.dirname(os.path.realpath(__file__))
 sys.path.insert(0, f"{HERE}/tools")
 import preload
 from crates import processors
+from tally import Tally
 
 TOP = os.path.dirname(HERE)
 PROGRAM, SECONDS = f"{TOP}/crates/vanlab/out/vanlab", 20
 # These tests assert what a call which allocates answers, or end by another word than its own, so they fail where it is refused.
 ASSERT_MEMORY = """
-x12_tests::command::the_first_wrong_word_is_named
-x12_ledger_tests::sending::after_a_restart_all_that_is_open_is_due
-x12_ledger_tests::sending::an_interchange_is_sent_at_its_ticks
-x12_ledger_tests::sending::what_is_loaded_is_due_and_is_sent_by_the_schedule
-x12_network_tests::hub::a_hub_that_is_closed_goes_on_where_it_was
-x12_network_tests::station_arrivals::a_refusal_needs_no_group_number
-x12_network_tests::station_arrivals::nothing_is_filed_where_no_number_is_left_for_its_reply
+answers::command::the_first_wrong_word_is_named
+ledgers::sending::after_a_restart_all_that_is_open_is_due
+ledgers::sending::an_interchange_is_sent_at_its_ticks
+ledgers::sending::what_is_loaded_is_due_and_is_sent_by_the_schedule
+networks::hub::a_hub_that_is_closed_goes_on_where_it_was
+networks::station_arrivals::a_refusal_needs_no_group_number
+networks::station_arrivals::nothing_is_filed_where_no_number_is_left_for_its_reply
 """.split()
 # The modules whose tests are swept, and those whose tests take little memory at once.
 SWEPT = {
-    "x12_tests": "answer command memory need reply writing",
-    "x12_ledger_tests": "memory plan register settling",
-    "x12_network_tests": "hub hub_records station_answers station_arrivals station_ticks",
-    "x12_nodes_tests": "memory",
+    "answers": "answer command memory need reply writing",
+    "ledgers": "memory plan register settling",
+    "networks": "hub hub_records station_answers station_arrivals station_ticks",
+    "nodes": "memory",
 }
-SPARING = {"x12_ledger_tests": "large memory register sending"}
+SPARING = {"ledgers": "large memory register sending"}
 OF_PROGRAM = re.compile(r"(error: there is not enough memory|[Ee]rror: out of memory|Error: memory allocation failed)\n")
 # How a test ends by want of memory: by the error that `?` hands on, or by `expect`; Write is a vector's as a writer.
 OF_TESTS = {
@@ -68,18 +68,12 @@ OF_TESTS = {
 Ran = collections.namedtuple("Ran", "status out err refused")
 
 
-class Sweeps:
+class Sweeps(Tally):
     """Runs with refused allocations, and what passed and failed of them."""
 
     def __init__(self, library):
-        self.library, self.passed, self.failed, self.counting = library, 0, 0, threading.Lock()
-
-    def count(self, is_well, said):
-        with self.counting:
-            self.passed += bool(is_well)
-            self.failed += not is_well
-            if not is_well:
-                print(f"refused memory: {said}", flush=True)
+        super().__init__("refused memory")
+        self.library = library
 
     def run(self, words, given=b"", **limits):
         """What came of a run with this refused; the status is -1 where it didn't end."""
@@ -110,14 +104,14 @@ class Sweeps:
                 break
             number += 1
         told = [f"{said} (at allocation {numbers[0]}, and {len(numbers)} in all)" for said, numbers in found.items()]
-        self.count(not found, f"{name}: {'; '.join(told)}")
+        self.want(f"{name}: {'; '.join(told)}", not found)
         return runs, ran
 
     def spares(self, most, name, words, given=b""):
         """Wants a run to make no larger allocation."""
         ran = self.run(words, given, MOST_ALLOCATED=most)
-        self.count(not ran.refused, f"{name}: more than {most} bytes are taken at once")
-        self.count(ran.refused or ran.status == 0, f"{name}: status {ran.status} where nothing is refused")
+        self.want(f"{name}: more than {most} bytes are taken at once", not ran.refused)
+        self.want(f"{name}: status {ran.status} where nothing is refused", ran.refused or ran.status == 0)
 
 
 def first_line(ran):
@@ -160,9 +154,9 @@ def look_at_answers(sweeps):
     for name, given in (("an order", order), ("a long transmission", long)):
         ended = sweeps.run(words, given)
         runs, _ = sweeps.sweep(name, words, given, lambda ran: wrong_of(ran, ended, lambda out: is_whole(out, ended.out)))
-        sweeps.count(len(runs) > 99, f"{name}: only {len(runs)} allocations were refused")
+        sweeps.want(f"{name}: only {len(runs)} allocations were refused", len(runs) > 99)
         partly = sum(bool(ran.out) and ran.status == 1 for ran in runs)
-        sweeps.count(partly or given == order, f"{name}: no run stopped behind a reply that was written")
+        sweeps.want(f"{name}: no run stopped behind a reply that was written", partly or given == order)
 
 
 def look_at_script(sweeps, path):
@@ -173,12 +167,12 @@ def look_at_script(sweeps, path):
     ended = sweeps.run(words, given)
     runs, _ = sweeps.sweep(path, words, given, lambda ran: wrong_of(ran, ended, ended.out.startswith))
     stopped = sum(ran.status == 1 for ran in runs)
-    sweeps.count(stopped > 100, f"{path}: only {stopped} runs stopped")
+    sweeps.want(f"{path}: only {stopped} runs stopped", stopped > 100)
 
 
 def look_at_program(sweeps):
     if not os.path.isfile(PROGRAM):
-        return sweeps.count(False, f"{PROGRAM} isn't built")
+        return sweeps.want(f"{PROGRAM} isn't built", False)
     look_at_answers(sweeps)
     for path in ("samples/kept_reply.script", "samples/lost_twice.script"):
         look_at_script(sweeps, path)
@@ -205,9 +199,9 @@ def names_in(tests, modules):
 def sweep_test(sweeps, tests, name):
     """Sweeps a test; returns how many allocations were refused."""
     runs, last = sweeps.sweep(name, [tests, name], b"", wrong_of_test)
-    sweeps.count(last.status == 0, f"{name}: status {last.status} where nothing is refused")
+    sweeps.want(f"{name}: status {last.status} where nothing is refused", last.status == 0)
     if "::memory::" in name:
-        sweeps.count(any(ran.status == 0 for ran in runs), f"{name}: no refused call was made again")
+        sweeps.want(f"{name}: no refused call was made again", any(ran.status == 0 for ran in runs))
     return len(runs)
 
 
@@ -216,9 +210,9 @@ def look_at_tests(sweeps, tests):
         for (part, module), names in names_in(tests, SWEPT).items():
             swept = [it for it in names if it not in ASSERT_MEMORY]
             refused = sum(lanes.map(lambda name: sweep_test(sweeps, tests, name), swept))
-            sweeps.count(refused, f"{part} {module}: no allocation was refused")
+            sweeps.want(f"{part} {module}: no allocation was refused", refused)
         for (part, module), names in names_in(tests, SPARING).items():
-            sweeps.count(names, f"{part} {module}: no test shows what is taken at once")
+            sweeps.want(f"{part} {module}: no test shows what is taken at once", names)
             for name in names:
                 sweeps.spares(4194304, name, [tests, name])
 
@@ -230,17 +224,16 @@ def main(words):
     with tempfile.TemporaryDirectory(prefix="refused-") as room:
         library = preload.library("refuse_memory", room)
         sweeps = Sweeps(library)
-        sweeps.count(library, "the library that refuses can't be built")
+        sweeps.want("the library that refuses can't be built", library)
         if library and words != ["program"] and words[:1] != ["program"]:
             tests = words[1] if len(words) > 1 else f"{room}/tests"
             built = len(words) > 1 or subprocess.run([f"{HERE}/tests.py", "--unoptimized", tests], check=False).returncode == 0
-            sweeps.count(built, "the tests can't be built")
+            sweeps.want("the tests can't be built", built)
             if built:
                 look_at_tests(sweeps, tests)
         if library and words[:1] != ["tests"]:
             look_at_program(sweeps)
-    print(f"{sweeps.passed} passed, {sweeps.failed} failed")
-    return 1 if sweeps.failed else 0
+    return sweeps.end()
 
 
 if __name__ == "__main__":

@@ -4,7 +4,7 @@
 usage: sources.py [sizes | imports | words | types ..]
 
 sizes    a function has at most 8 clauses, 6 parameters beside `self` and 40 lines between the braces of its body; a file
-         of src/ or specs/ has at most 350 lines
+         of src/, tests/ or specs/ has at most 350 lines
 imports  a name that a file imports is used there: as a whole word outside comments, an operator where it stands at all,
          `fmt` where an error type is derived, a trait of METHODS where one of its methods is called; a `ghost use` has no alias
 words    a word of specs/ stands in one file, and so does the statement of a lemma of proofs/, whatever its variables are
@@ -22,7 +22,7 @@ import sys
 sys.dont_write_bytecode = True
 HERE = os.path.dirname(os.path.realpath(__file__))
 sys.path.insert(0, f"{HERE}/tools")
-from source_text import files_of, functions_in, statements_in, words_in
+from source_text import files_of, files_of_tests, functions_in, statements_in, words_in
 
 MOST = {"clauses": 8, "parameters": 6, "lines": 40}
 FILE_LINES, BODY_LINES = 350, 3
@@ -49,6 +49,7 @@ class Sources:
 
     def __init__(self):
         self.src, self.specs, self.proofs = (list(files_of(*it)) for it in (("src", ".rt"), ("specs", ".antt"), ("proofs", ".antt")))
+        self.src += files_of_tests()
         self.functions = {path: list(functions_in(text)) for path, text in self.src}
         self.may = collections.defaultdict(dict)
         with open(f"{HERE}/sources.txt", encoding="utf-8") as file:
@@ -66,8 +67,9 @@ def sizes(sources):
         lines = text.count("\n")
         found = [f"{path}: {lines} lines, and {FILE_LINES} is the most"] if lines > FILE_LINES else []
         for it in sources.functions.get(path, ()):
-            found += [f"{path}:{it.line}: {it.name} has {getattr(it, what)} {what}, and {most} is the most"
-                      for what, most in MOST.items() if getattr(it, what) > most]
+            sizes_of = {"clauses": len(it.clauses), "parameters": it.parameters, "lines": it.lines}
+            found += [f"{path}:{it.line}: {it.name} has {size} {what}, and {MOST[what]} is the most"
+                      for what, size in sizes_of.items() if size > MOST[what]]
         yield found
 
 

@@ -1,11 +1,13 @@
 """The whole test: ./test, ./test --all, ./test --quick.
 
-./test works in a copy of the repository without its test crates, whose tests are run unproved. `rt ci` proves every crate
-there, tries wrong bodies of must-fail/ and runs the programs; what an earlier run on this machine passed, and what has not
-changed since, it takes from there. Of the wrong bodies ./test draws BODIES: first those of crates that differ from the branch
-main or stand on one that does, then others. --all tries every one. Beside it, at a lower priority, run the tests and the scripts that need no proved program
-(BESIDE); behind it, side by side, those that do (BEHIND). --all also proves the test crates, runs the tests with the address
-sanitizer, kills mailboxes more often, and fails where a wrong body shows nothing; ./test tells of such a body and goes on.
+./test works in a copy of the repository without the crate proved_callers. `rt ci` proves every crate there, tries wrong bodies of
+must-fail/ and runs the programs; what an earlier run on this machine passed, and what has not changed since, it takes from there.
+Of the wrong bodies ./test draws BODIES: first those of crates that differ from the branch main or stand on one that does, then
+others. The text of the crates decides which: so a second run takes them from the first. --all tries every one.
+
+Beside it, at a lower priority, run the tests and the scripts that need no proved program (BESIDE); behind it, side by side, those
+that do (BEHIND). --all also proves proved_callers, runs the tests with the address sanitizer, kills mailboxes more often, and
+fails where a wrong body shows nothing; ./test tells of such a body and goes on.
 --quick proves next to nothing: quick.py says what it does.
 
 A script of checks/ that isn't listed here, or can't be run, is a failure. What failed is told where it was tried, and once more
@@ -52,12 +54,13 @@ BEHIND = [
     "package.py",
     "power.py",
     "strangers.py",
+    "damage.py",
 ]
-ALL = {"tests.py --native --keep {run}/tests": "tests.py --keep {run}/tests", "mailbox.py": "mailbox.py --kills 1000 --orders 2000"}
+ALL = {"tests.py --native --keep {run}/tests": "tests.py --keep {run}/tests", "mailbox.py": "mailbox.py --kills 1000 --orders 2000", "damage.py": "damage.py --tries 1000"}
 # What the others use.
 NOT_RUN = ["quick.py", "pages.py"]
-# The crates whose tests are run unproved, and are proved in --all alone.
-OF_TESTS = re.compile(r"\w+_tests\b")
+# The crate that is proved in --all alone.
+CALLERS = "proved_callers"
 # How many wrong bodies ./test tries.
 BODIES = 120
 # The first crates wait for one another, and are proved by runs of their own: as far as the one, then the other.
@@ -88,12 +91,11 @@ def ignored(top):
     return names
 
 
-def leave_tests_out(top):
-    """Takes the test crates out of a copy."""
-    for name in filter(OF_TESTS.fullmatch, os.listdir(f"{top}/crates")):
-        shutil.rmtree(f"{top}/crates/{name}")
+def leave_callers_out(top):
+    """Takes proved_callers out of a copy."""
+    shutil.rmtree(f"{top}/crates/{CALLERS}")
     with open(f"{top}/crates.txt", "r+", encoding="utf-8") as file:
-        kept = [line for line in file if not OF_TESTS.match(line)]
+        kept = [line for line in file if not line.startswith(f"{CALLERS}:")]
         file.seek(0)
         file.truncate()
         file.writelines(kept)
@@ -109,8 +111,9 @@ def changed_crates():
 
 def leave_bodies_out(top):
     """Takes the wrong bodies that aren't drawn out of a copy; returns how many."""
-    bodies, changed = glob.glob(f"{top}/crates/*/must-fail/*.edit"), changed_crates()
-    random.shuffle(bodies)
+    bodies, changed = sorted(glob.glob(f"{top}/crates/*/must-fail/*.edit")), changed_crates()
+    tree = subprocess.run(["git", "rev-parse", "HEAD:crates"], cwd=TOP, capture_output=True, text=True, check=False).stdout
+    random.Random(tree).shuffle(bodies)
     bodies.sort(key=lambda it: it.split("/")[-3] not in changed)
     for path in bodies[BODIES:]:
         os.remove(path)
@@ -122,7 +125,7 @@ def copies(run, is_all):
     for name in ("whole", "top"):
         shutil.copytree(TOP, f"{run}/{name}", ignore=ignored(TOP))
     if not is_all:
-        leave_tests_out(f"{run}/top")
+        leave_callers_out(f"{run}/top")
     os.makedirs(f"{run}/top/.git")
     os.makedirs(f"{run}/proved")
     return 0 if is_all else leave_bodies_out(f"{run}/top")

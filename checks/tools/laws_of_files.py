@@ -1,19 +1,19 @@
 """Laws of what van writes of transmissions at random, and on a terminal."""
 import csv
+import io
 import json
 import os
-import pty
 import random
 import re
-import subprocess
 
 import fuzz_inputs
+from terminal import on_terminal
 
 HEAD = b"ISA*00*          *00*          *ZZ*ALPHA          *ZZ*BETA           *250102*0930*U*00401*000000001*1*P*:"
 REJECTED = ["check", "--me", "ZZBETA", "PO850", "samples/rejected.edi"]
 INKS = ("\x1b[0m", "\x1b[1m", "\x1b[32m", "\x1b[1;31m")
-PLACE = re.compile(rb"^  group (\d+), .*?, set (\d+), ...? \S*: rejected: |^  group (\d+), .*: refused: (\d+) ")
-NOTE = re.compile(rb'^    segment (\d+) .*?(?:, element (\d+) \(\d+\)(?: ".*")?)?: (\d+) [^":]*$')
+PLACE = re.compile(rb"^  group (\d+), .*?, set (\d+), ...? \S*: rejected: |^  group (\d+), .*: refused: \w+/(\d+) ")
+NOTE = re.compile(rb'^    segment (\d+) .*?(?:, element (\d+) \(\d+[^)]*\)(?: ".*")?)?: \w+/(\d+) [^":]*$')
 
 
 def interchange(pick, terminator):
@@ -52,13 +52,13 @@ def of_words(said):
     for line in said.split(b"\n"):
         place, note = PLACE.match(line), NOTE.match(line)
         if place and place[2]:
-            codes = re.findall(r"(?:: |, )(\d+) ", line[place.end() - 2 :].decode("latin-1"))
+            codes = re.findall(r"(?:: |, )\w+/(\d+) ", line[place.end() - 2 :].decode("latin-1"))
             found.append(("set", int(place[1]), int(place[2]), tuple(codes)))
         elif place:
             found.append(("group", int(place[3]), place[4].decode()))
         elif note:
             found.append(("note", int(note[1]), int(note[2] or 0), note[3].decode()))
-        elif re.match(rb"interchange \d+(, \d{9}, .*)?: (refused: \d|H\d )", line):
+        elif re.match(rb"interchange \d+(, \d{9}, .*)?: (refused: \w+/\d|H\d )", line):
             whole += 1
     return found, whole
 
@@ -79,14 +79,14 @@ def of_json(said):
             for it in group["sets"]:
                 if not it["accepted"]:
                     found.append(("set", group["group"], it["set"], tuple(code["code"] for code in it["codes"])))
-                found += [("note", note["segment"], note.get("element", 0), note["code"]) for note in it["notes"]]
+                found += [("note", note["segment"], note.get("element", 0), code["code"]) for note in it["notes"] for code in note["codes"]]
     return found, whole
 
 
 def of_csv(said):
     """The same, as CSV tells it."""
     found, whole = [], 0
-    for one in csv.DictReader(said.decode().split("\n")):
+    for one in csv.DictReader(io.StringIO(said.decode(), newline="")):
         if one["segment"]:
             found.append(("note", int(one["segment"]), int(one["element"] or 0), one["code"]))
         elif one["set"]:
@@ -120,26 +120,17 @@ def are_alike(run, seeds):
     return count >= len(seeds)
 
 
-def on_terminal(program, words, **environment):
-    """What a program writes to a terminal."""
-    ours, theirs = pty.openpty()
+def shown_by(program, words, **environment):
+    """What van writes to a terminal."""
     kept = {name: value for name, value in os.environ.items() if name != "NO_COLOR"}
-    subprocess.run([program("van"), *words], stdin=subprocess.DEVNULL, stdout=theirs, env={**kept, **environment}, check=False)
-    os.close(theirs)
-    said = b""
-    try:
-        while part := os.read(ours, 65536):
-            said += part
-    except OSError:  # the other end is closed
-        pass
-    os.close(ours)
+    said = on_terminal([program("van"), *words], "stdout", env={**kept, **environment})[2]
     return said.replace(b"\r\n", b"\n").decode("latin-1")
 
 
 def is_coloured(run):
     """Whether words are coloured on a terminal, with carets; with carets alone where colours aren't wanted."""
     written = lambda *more: run("van", [*REJECTED, *more], "")[0]
-    shown = lambda *more, **its: on_terminal(run.program, [*REJECTED, *more], **its)
+    shown = lambda *more, **its: shown_by(run.program, [*REJECTED, *more], **its)
     colours, carets = written("--color", "always"), "      BEG*000*SA***20250102\n          ^^^\n"
     plain = colours
     for ink in INKS:

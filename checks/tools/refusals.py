@@ -6,7 +6,7 @@ leaves. A reader's or a writer's own errors are those of whoever passed it in. A
 import os
 import re
 
-from contracts import CLAUSE, HEAD, behind, blank, end_of_head, files_of, owner_at
+from source_text import behind, files_of, functions_in
 
 TITLE = "# Each call that can be refused"
 RESULT = re.compile(r"->\s*(Result<.*?>)\s*(?=where\b|requires\b|ensures\b|\{|;)", re.S)
@@ -20,21 +20,21 @@ LEFT = {"unchanged", "back", "same", "front", "crash", "disk", "answered", "neve
         "asks_none", "left", "counted", "unsent", "unsettled", "undrafted", "unnamed", "unkept", "unsure", "reserved", "survives", "mode", "hub", "lost", "err"}
 # Where no clause says when: what shows it.
 SHOWN = {
-    "command_table": "`checks/cases.sh` and `checks/refused_memory.sh`",
-    "x12_inspect": "`checks/van.sh`",
-    "x12_segments": "`checks/van.sh`",
-    "x12_sent": "`checks/van.sh`",
+    "command_table": "`checks/rows.py` and `checks/refused_memory.py`",
+    "x12_inspect": "`checks/rows.py`",
+    "x12_segments": "`checks/rows.py`",
+    "x12_sent": "`checks/rows.py`",
     "x12_mailbox": "`checks/mailbox.py`",
-    "x12_network": "`gates.rt` of x12_trial_tests",
-    "x12_nodes": "`refusals.rt` of x12_nodes_tests",
-    "x12_records": "tests of x12_records_tests, and `checks/mailbox.py`",
-    "x12_tables": "tests of x12_records_tests",
-    "x12_answering": "tests of x12_tests",
+    "x12_network": "`tests/trials`",
+    "x12_nodes": "`tests/nodes`",
+    "x12_records": "`tests/records`, and `checks/mailbox.py`",
+    "x12_tables": "`tests/records`",
+    "x12_answering": "`tests/answers`",
     "x12_trial": "`checks/network.py`",
-    "sql_rows": "tests of x12_records_tests",
+    "sql_rows": "`tests/records`",
     "x12_verify": "nothing: its records answer nothing then, or memory is missing",
 }
-APART = ("van", "vanlab", "x12_samples")
+APART = ("van", "vanlab", "x12_samples", "proved_callers")
 
 
 def last_type(result):
@@ -49,18 +49,14 @@ def last_type(result):
 
 def rows_in(text):
     """The calls of a file that can be refused: name, fault, clauses, whether it may change something, and whether it is a trait's."""
-    code = blank(text)
-    for head in HEAD.finditer(code):
-        end = end_of_head(code, head.end())
-        is_public = head[1] == "pub " or code[:head.start()].rfind("pub trait") > code[:head.start()].rfind("\n}")
-        result = RESULT.search(code[head.end():end + 1])
-        if is_public and result:
-            clauses = [(it[1], it[0].startswith("ensures"), code[it.end():behind(code, it.end() - 1)])
-                       for it in CLAUSE.finditer(code, head.end(), end)]
-            owner, taken = owner_at(code, head.start())[1], code[head.end():behind(code, code.index("(", head.end()))]
+    for it in functions_in(text):
+        result = RESULT.search(it.head)
+        if it.is_public and result:
+            taken = it.head[:behind(it.head, it.head.index("("))]
             # what is given the host may change files
             may_change = "&mut" in taken or "HostRuntime" in taken or "self" in taken and "&self" not in taken
-            yield f"{owner}::{head[2]}" if owner else head[2], last_type(result[1]), clauses, may_change, head[1] is None
+            clauses = [(name, is_ensured, said) for is_ensured, name, said in it.clauses]
+            yield f"{it.owner}::{it.name}" if it.owner else it.name, last_type(result[1]), clauses, may_change, it.of_trait
 
 
 def listed(names):
@@ -84,7 +80,7 @@ def tables():
     lines, crate = [TITLE], None
     for path, text in files_of("src", ".rt"):
         here = path.split(os.sep)[0]
-        if here.endswith("_tests") or here in APART:
+        if here in APART:
             continue
         for it in rows_in(text):
             if here != crate:

@@ -6,20 +6,21 @@ from collections import namedtuple
 
 ROOT = os.path.dirname(os.path.dirname(os.path.dirname(os.path.realpath(__file__))))
 APART = re.compile(r"""//[^\n]*|b?"(?:\\.|[^"\\])*"|b?'(?:\\.|[^'\\])'""", re.S)
-HEAD = re.compile(r"\bfn (\w+)")
-STEP = re.compile(r"\b(?:requires|ensures)\b|[(\[{;]")
+HEAD = re.compile(r"(pub(?:\([^)]*\))? )?(?:const )?(?:unsafe )?\bfn (\w+)")
+STEP = re.compile(r"\b(requires|ensures)\*?(?:\s+(\w+))?\s*\{|[(\[{;]")
 ENDS = {"(": ")", "[": "]", "{": "}", "<": ">"}
-IMPL = re.compile(r"^impl\b(?:<[^{]*?>)? (?:[\w:]+(?:<[^{]*?>)? (for) )?&?(?:mut )?(\w+)", re.M)
+BLOCK = re.compile(r"^(pub )?(impl|trait)\b(?:<[^{]*?>)? (?:(?:[\w:]+::)?(\w+)(?:<[^{]*?>)? for )?&?(?:mut )?(\w+)", re.M)
 DEFINITION = re.compile(
     r" *(?:(?:abbrev|unfoldable)(?: pub)?|pub (?:record|data)|pub(?! (?:mod|use|module|open)\b)) ([^\s:({]+)")
 LEMMA = re.compile(r"( *)(?:pub )?([^\s:(){}]+) :(?= |$)")
 TOKEN = re.compile(r"[^\s(){}\[\];,.]+|[(){}\[\];,.]")
 BINDER = re.compile(r"[({]([^(){}:]+?) : |λ ([^.()]+?)\.|λ \(([^:()]+?) : ")
 
-# A function: its name; the numbers of its first line, from its attributes on, of its head and of its last line; how many
-# clauses, parameters beside `self` and lines of a body it has; its body, line by line and without comments; and the name
-# that `rt check --only` knows it or its module by.
-Function = namedtuple("Function", "name first line last clauses parameters lines body path")
+# A function: its name; the numbers of its first line, from its attributes on, of its head and of its last line; its clauses, as
+# (ensures, name, text); how many parameters beside `self` and lines of a body it has; its body, line by line and without
+# comments; the name that `rt check --only` knows it or its module by; the trait and the type, or the trait alone, of the block
+# that it stands in; whether others may call it, and whether by a trait; what stands before its body; and its body as code.
+Function = namedtuple("Function", "name first line last clauses parameters lines body path trait owner is_public of_trait head code")
 
 
 def files_of(part, ending):
@@ -27,6 +28,13 @@ def files_of(part, ending):
     for path in sorted(glob.glob(os.path.join(ROOT, "crates", "*", part, "**", "*" + ending), recursive=True)):
         with open(path, encoding="utf-8") as file:
             yield os.path.relpath(path, os.path.join(ROOT, "crates")), file.read()
+
+
+def files_of_tests():
+    """The files of tests/, by their paths from the top, and their texts."""
+    for path in sorted(glob.glob(os.path.join(ROOT, "tests", "**", "*.rattle"), recursive=True)):
+        with open(path, encoding="utf-8") as file:
+            yield os.path.relpath(path, ROOT), file.read()
 
 
 def plain(text):
@@ -63,12 +71,10 @@ def parameters_in(text):
     return len([it for it in parts if it.strip() and not re.search(r"\bself$", it.strip())])
 
 
-def path_of(code, at, name, module):
-    """The name that `--only` knows a function by; of a trait's function that of its module."""
-    block = next((it for it in reversed(list(IMPL.finditer(code, 0, at)))), None)
-    if not block or code.rfind("\n}", block.start(), at) >= 0:
-        return f"{module}::{name}" if module else name
-    return (module or name) if block[1] else f"{block[2]}::{name}"
+def block_at(code, at):
+    """The block that a place stands in: whether it is public, `impl` or `trait`, the trait that it gives, and its type."""
+    block = next((it for it in reversed(list(BLOCK.finditer(code, 0, at)))), None)
+    return block.groups() if block and code.rfind("\n}", block.start(), at) < 0 else (None, None, None, None)
 
 
 def first_line(lines, line):
@@ -80,22 +86,27 @@ def first_line(lines, line):
 
 def functions_in(text, module=""):
     """The functions of a source."""
-    code, lines = plain(text).replace("->", "  "), text.split("\n")
+    whole, lines = plain(text), text.split("\n")
+    code = whole.replace("->", "  ")
     for head in HEAD.finditer(code):
         at = head.end()
         at = behind(code, at, "([{<") if code[at] == "<" else at
-        end, clauses = behind(code, at), 0
+        end, clauses = behind(code, at), []
         parameters, step = parameters_in(code[at:end]), STEP.search(code, end)
         while step[0] not in "{;":
-            clauses += step[0] not in "(["
-            end = behind(code, step.start() if step[0] in "([" else code.index("{", step.end()))
+            end = behind(code, step.end() - 1)
+            if step[1]:
+                clauses.append((step[1] == "ensures", step[2], code[step.end():end]))
             step = STEP.search(code, end)
         opens, closes = step.start(), behind(code, step.start()) if step[0] == "{" else step.start()
         body = [it.strip() for it in text[opens + 1 : closes - 1].strip("\n").split("\n")]
         number = lambda place: code.count("\n", 0, place) + 1
-        yield Function(head[1], first_line(lines, number(head.start())), number(head.start()), number(closes), clauses, parameters,
+        shown, kind, trait, owner = block_at(code, head.start())
+        of_type = f"{owner}::{head[2]}" if kind == "impl" else f"{module}::{head[2]}" if module else head[2]
+        yield Function(head[2], first_line(lines, number(head.start())), number(head.start()), number(closes), clauses, parameters,
                        max(code.count("\n", opens, closes) - 1, 0), [it for it in body if it and not it.startswith("//")],
-                       path_of(code, head.start(), head[1], module))
+                       (module or head[2]) if trait else of_type, trait, owner, head[1] == "pub " or kind == "trait" and bool(shown),
+                       not head[1], whole[head.end() : opens + 1], code[opens:closes])
 
 
 def depth_of(line):

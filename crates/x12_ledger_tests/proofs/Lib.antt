@@ -1,5 +1,0 @@
-mod OrderLemmas
-mod LiftLemmas
-mod PlanLemmas
-mod LargeLemmas
-mod ArrivalLemmas

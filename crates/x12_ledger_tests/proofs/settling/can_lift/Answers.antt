@@ -1,6 +1,0 @@
-use Rattle.std.proofs.Common.{refl}
-use Rattle.x12_ledger_tests.proofs.LiftLemmas.{is_out}
-use Rattle.x12_ledger_tests.proofs.settling.can_lift.Goals as goal
-
-pub lay-requires : goal.lay-requires
-lay-requires c = is_out _ _ _ _ _ c.in-Some.ensures.out refl c.in-Some.ensures.key c.in-Some.ensures.lifts

@@ -1,9 +1,0 @@
-use Rattle.std.proofs.Common.{refl}
-use Rattle.x12_ledger_tests.proofs.LiftLemmas.{is_out}
-use Rattle.x12_ledger_tests.proofs.settling.is_rejected.Goals as goal
-
-pub close-requires : goal.close-requires
-close-requires c = rw c.in-Ok.ensures.key (is_out _ _ _ _ _ c.in-Some.ensures.out refl c.in-Some.ensures.key c.in-Some.ensures.lifts)
-
-pub lay-requires : goal.lay-requires
-lay-requires c = rw c.in-Err.ensures.back.0 (is_out _ _ _ _ _ c.in-Some.ensures.out refl c.in-Some.ensures.key c.in-Some.ensures.lifts)
