@@ -3,3 +3,4 @@ mod TurnLemmas
 mod OfferLemmas
 mod HandingLemmas
 mod NumberingLemmas
+mod PowerLemmas

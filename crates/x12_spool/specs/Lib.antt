@@ -11,3 +11,4 @@ pub mod SubmitTurn
 pub mod Handing
 pub mod Handed
 pub mod Whole
+pub mod Power
