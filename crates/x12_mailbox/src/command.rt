@@ -33,15 +33,15 @@ pub enum Command {
     Submit,
     /// Takes what came, and puts what goes on: a turn of a station or of a hub.
     Run,
-    /// Says how each submitted set of a station fares, or what waits at a hub.
+    /// Prints the status of each submitted set of a station, or what waits at a hub.
     Status,
     /// Tells what a station submitted, took and posted, or what went through a hub.
     Log,
     /// Lists the accepted sets of a station, or writes them into files.
     Postings,
-    /// Holds senders' fates against receivers' postings, byte by byte.
+    /// Compares the senders' statuses with the receivers' postings, byte by byte.
     Reconcile,
-    /// Computes a station's fates, postings and numbers again, and says the first difference.
+    /// Computes a station's statuses, postings and numbers again, and names the first difference.
     Verify,
     /// Brings a station's records of an older version to the newest.
     Migrate,

@@ -36,7 +36,7 @@ static WORDS: [Word; 6] = [
         kind: Kind::One,
         name: "party",
         value: "QQID",
-        help: "Who gets a mailbox, as ZZBETA",
+        help: "The party that gets a mailbox, as ZZBETA",
     },
     Word {
         kind: Kind::Value,
@@ -79,7 +79,7 @@ pub(crate) fn row() -> Row {
 pub(crate) struct EnrolWords<'a> {
     /// The folder of the hub.
     pub(crate) dir: &'a str,
-    /// Who gets a mailbox.
+    /// The party that gets a mailbox.
     pub(crate) party: &'a str,
     /// `--at`.
     pub(crate) at: Option<&'a str>,

@@ -7,6 +7,6 @@ pub(crate) enum Form {
     Words,
     /// One JSON object a line.
     Json,
-    /// CSV, behind a line with the names of the columns.
+    /// CSV, after a line with the column names.
     Csv,
 }

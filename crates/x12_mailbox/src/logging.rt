@@ -29,7 +29,7 @@ static WORDS: [Word; 7] = [
         kind: Kind::Value,
         name: "partner",
         value: "QQID",
-        help: "Only what went to this party or came from it",
+        help: "Only interchanges to or from this party",
     },
     Word {
         kind: Kind::Value,

@@ -12,7 +12,7 @@ use crate::whose::{Whose, read_whose};
 use crate::words::{below, party_text};
 use std::alloc::{AllocError, Global};
 use x12_envelopes::Party;
-use x12_hub::{Hub, HubRecords};
+use x12_hub::{Hub, HubLoaded, HubRecords};
 use x12_station::{Records, Station};
 
 /// Which version records were of before a migration, and which they are of.
@@ -164,21 +164,37 @@ fn tested_station<R: Records + Drop>(
     }
 }
 
+/// A hub, and what it has in memory of its records.
+pub(crate) fn with_loaded<H: HubRecords + Drop>(
+    rt: &HostRuntime,
+    dir: &str,
+    hub: Hub<H>,
+) -> Result<(Hub<H>, HubLoaded), Stop> {
+    let me = hub.party();
+    let mut records = hub.close();
+    let loaded = match records.load() {
+        Ok(loaded) => loaded,
+        Err(fault) => return Err(hub_trouble(rt, dir, fault.into())),
+    };
+    match Hub::open(rt.alloc(), me, records) {
+        Ok(hub) => Ok((hub, loaded)),
+        Err((_, fault)) => Err(hub_trouble(rt, dir, fault)),
+    }
+}
+
 /// A hub, unless its records have less than was counted.
 fn tested_hub<H: HubRecords + Drop>(
     rt: &HostRuntime,
     dir: &str,
     hub: Hub<H>,
 ) -> Result<Hub<H>, Stop> {
-    let me = hub.party();
-    let mut records = hub.close();
-    match records.load() {
-        Ok(loaded) => test_hub(rt, dir, &loaded)?,
-        Err(fault) => return Err(hub_trouble(rt, dir, fault.into())),
-    }
-    match Hub::open(rt.alloc(), me, records) {
-        Ok(hub) => Ok(hub),
-        Err((_, fault)) => Err(hub_trouble(rt, dir, fault)),
+    let (hub, loaded) = with_loaded(rt, dir, hub)?;
+    match test_hub(rt, dir, &loaded) {
+        Ok(()) => Ok(hub),
+        Err(stop) => {
+            drop(hub.close());
+            Err(stop)
+        }
     }
 }
 

@@ -41,7 +41,7 @@ pub(crate) const CSV: Word = Word {
     kind: Kind::Flag,
     name: "csv",
     value: "",
-    help: "Writes CSV, behind a line with the names of the columns",
+    help: "Writes CSV, after a line with the column names",
 };
 
 /// The value of a word that has to be there.

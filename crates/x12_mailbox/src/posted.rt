@@ -29,7 +29,7 @@ static WORDS: [Word; 3] = [
         kind: Kind::Value,
         name: "from",
         value: "N",
-        help: "Leaves out those in front of this one, from 1",
+        help: "Begins with this posting, from 1",
     },
 ];
 

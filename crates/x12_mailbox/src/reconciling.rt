@@ -21,7 +21,7 @@ use x12_words::fate_word;
 
 const MORE: &str = "\
 A line of the report tells of one submitted transaction set: its sender, number,
-group and place, its receiver, how it fares, how often it stands in its
+group and place, its receiver, its status, how often it stands in its
 receiver's postings, and a mark.
   ok   accepted or noted and posted once, rejected and not posted, or pending and
        posted at most once, and each time byte for byte as it was submitted
@@ -50,7 +50,7 @@ static WORDS: [Word; 4] = [
 pub(crate) fn row() -> Row {
     Row {
         name: "reconcile",
-        about: "Holds senders' fates against receivers' postings, byte by byte.",
+        about: "Compares the senders' statuses with the receivers' postings, byte by byte.",
         more: MORE,
         words: &WORDS,
     }
@@ -213,7 +213,7 @@ fn audit_posted(rt: &HostRuntime, form: Form, all: &[Books], books: &Books) -> R
     Ok(well)
 }
 
-/// Holds senders' fates against receivers' postings.
+/// Compares the senders' statuses with the receivers' postings.
 pub(crate) fn reconcile<O: OpensRecords>(
     rt: &HostRuntime,
     opens: &O,

@@ -3,10 +3,9 @@
 use crate::clock::moment;
 use crate::connecting::mailboxes_of;
 use crate::counts::{count_hub, nodes_of};
-use crate::enrolling::hub_trouble;
 use crate::files::{Files, files_in};
 use crate::naming::Names;
-use crate::opening::{Opened, OpensRecords, open};
+use crate::opening::{Opened, OpensRecords, open, with_loaded};
 use crate::options::{DIR, NOW, STATUSES, text};
 use crate::station_turns::run_station;
 use crate::stop::Stop;
@@ -26,7 +25,7 @@ static WORDS: [Word; 6] = [
         kind: Kind::Flag,
         name: "resend",
         value: "",
-        help: "A station sends again all that isn't answered yet",
+        help: "A station sends each unanswered interchange again",
     },
     Word {
         kind: Kind::Value,
@@ -194,24 +193,6 @@ impl<'a, H: HubRecords> Turns for HubTurns<'a, H> {
             waiting = waiting.saturating_add(self.node.hub.waiting(*node));
         }
         format!(in alloc; "\"waiting\":{waiting}")
-    }
-}
-
-/// A hub, and what it has in memory of its records.
-fn with_loaded<H: HubRecords + Drop>(
-    rt: &HostRuntime,
-    dir: &str,
-    hub: Hub<H>,
-) -> Result<(Hub<H>, HubLoaded), Stop> {
-    let me = hub.party();
-    let mut records = hub.close();
-    let loaded = match records.load() {
-        Ok(loaded) => loaded,
-        Err(fault) => return Err(hub_trouble(rt, dir, fault.into())),
-    };
-    match Hub::open(rt.alloc(), me, records) {
-        Ok(hub) => Ok((hub, loaded)),
-        Err((_, fault)) => Err(hub_trouble(rt, dir, fault)),
     }
 }
 

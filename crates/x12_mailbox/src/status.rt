@@ -1,4 +1,4 @@
-//! `van status`: how each submitted set of a station fares, or what waits at a hub.
+//! `van status`: the status of each submitted set of a station, or what waits at a hub.
 
 use crate::enrolling::hub_trouble;
 use crate::form::Form;
@@ -35,7 +35,7 @@ static WORDS: [Word; 4] = [
 pub(crate) fn row() -> Row {
     Row {
         name: "status",
-        about: "Says how each submitted set of a station fares, or what waits at a hub.",
+        about: "Prints the status of each submitted set of a station, or what waits at a hub.",
         more: STATUSES,
         words: &WORDS,
     }
@@ -249,7 +249,7 @@ fn hub_status<H: HubRecords>(
     Ok(0)
 }
 
-/// Says how each submitted set fares, or what waits.
+/// Prints the status of each submitted set, or what waits.
 pub(crate) fn status<O: OpensRecords>(
     rt: &HostRuntime,
     opens: &O,

@@ -37,7 +37,7 @@ static WORDS: [Word; 2] = [
 pub(crate) fn row() -> Row {
     Row {
         name: "verify",
-        about: "Computes a station's fates, postings and numbers again, and says the first difference.",
+        about: "Computes a station's statuses, postings and numbers again, and names the first difference.",
         more: MORE,
         words: &WORDS,
     }
