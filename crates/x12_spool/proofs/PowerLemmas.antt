@@ -1,35 +1,25 @@
 -- What a loss of power may leave of a folder.
 use native.Mathlib.Omega.{arith}
-use Rattle.std.proofs.Common.{◌<◌, ◌≡◌, ◌≢◌, ◌∙◌, ◌⊎◌, ◌++◌, ◌∷◌, ◌&&◌, ◌||◌, [], Bool, List, None, Option, Some, ap, drop, false, get_or, if◌then◌else◌, inl, inr, length, map, nat_eq, refl, subst, suc, sym, true, ℕ}
+use Rattle.std.proofs.Common.{◌<◌, ◌≡◌, ◌≢◌, ◌∙◌, ◌⊎◌, ◌++◌, ◌∷◌, ◌||◌, [], Bool, List, None, Option, Some, ap, drop, bytes_eq, false, get_or, if◌then◌else◌, inl, inr, length, map, nat_eq, refl, subst, suc, sym, true, ℕ}
+use Rattle.std.proofs.lemmas.Bool.{or_right}
 use Rattle.std.proofs.lemmas.List.{get_or-map, length-map}
 use Rattle.std.proofs.lemmas.List.Elements.{Contains-append_right}
 use Rattle.std.proofs.lemmas.List.Folds.{list_any-append}
-use Rattle.std.specs.Cmp.Lexicographic.{pointwise, unequal}
+use Rattle.std.specs.Cmp.Lexicographic.{unequal}
 use Rattle.std.specs.List.{Contains, list_any}
 use Rattle.x12_acks.specs.Accepted.{AcceptedSet}
+use Rattle.x12_numbers.proofs.Shelf.{bytes_eq_itself}
 use Rattle.x12_profile.specs.Interchange.{Bytes}
 use Rattle.x12_spool.specs.Deed.{Deed, Settles, Drafts, Syncs, Marks, Names, Writes, Renames}
-use Rattle.x12_spool.specs.Handing.{hands_over, hands_new}
+use Rattle.x12_spool.specs.Handing.{hands_new}
 use Rattle.x12_spool.specs.Offering.{AreFront}
-use Rattle.x12_spool.specs.Power.{Folder, after_deed, is_name, is_sync, is_mark, MayStand, PutStands, StoppedStands, DraftsStand, MarkedStand}
+use Rattle.x12_spool.specs.Power.{Folder, after_deed, is_sync, is_mark, MayStand, PutStands, StoppedStands, DraftsStand, MarkedStand}
 use Rattle.x12_spool.specs.Whole.{dotted_name, puts_whole}
-
-both : (a b : Bool) → a ≡ true → b ≡ true → (a && b) ≡ true
-both true true one other = refl
-both true false one other = absurd cc
-both false b one other = absurd cc
-
-number_is_itself : (n : ℕ) → nat_eq n n ≡ true
-number_is_itself n = grind (arith)
-
-name_is_itself : (name : List ℕ) → is_name name name ≡ true
-name_is_itself [] = refl
-name_is_itself (n ∷ ns) = both (nat_eq n n) (pointwise nat_eq ns ns) (number_is_itself n) (name_is_itself ns)
 
 longer : (n : ℕ) → suc n ≢ n
 longer n e = omega arith
 
-dot_is_another : (name : List ℕ) → is_name (dotted_name name) name ≡ false
+dot_is_another : (name : List ℕ) → bytes_eq (dotted_name name) name ≡ false
 dot_is_another name = unequal nat_eq (dotted_name name) name (longer (length name))
 
 module _ (was : Folder) (name : List ℕ) (bytes : Bytes) where
@@ -44,12 +34,8 @@ module _ (was : Folder) (name : List ℕ) (bytes : Bytes) where
 
   renamed_is : renamed name ≡ Some bytes
   renamed_is =
-      ap (λ c. if c then written (dotted_name name) else (if is_name (dotted_name name) name then None else written name)) (name_is_itself name)
-      ∙ ap (λ c. if c then Some bytes else was (dotted_name name)) (name_is_itself (dotted_name name))
-
-or_true : (a b : Bool) → b ≡ true → (a || b) ≡ true
-or_true true b e = refl
-or_true false b e = e
+      ap (λ c. if c then written (dotted_name name) else (if bytes_eq (dotted_name name) name then None else written name)) (bytes_eq_itself name)
+      ∙ ap (λ c. if c then Some bytes else was (dotted_name name)) (bytes_eq_itself (dotted_name name))
 
 or_none : (a b : Bool) → (a || b) ≡ false → a ≡ false
 or_none true b e = absurd cc
@@ -60,7 +46,7 @@ never t f = absurd cc
 
 put_syncs : (done : List Deed) (name : List ℕ) (bytes : Bytes) → list_any is_sync (done ++ puts_whole name bytes) ≡ true
 put_syncs [] name bytes = refl
-put_syncs (d ∷ ds) name bytes = or_true (is_sync d) _ (put_syncs ds name bytes)
+put_syncs (d ∷ ds) name bytes = or_right (is_sync d) _ (put_syncs ds name bytes)
 
 pub put_stands : PutStands
 put_stands was [] name bytes found (inl never_synced) = never refl never_synced.0

@@ -1,7 +1,6 @@
 -- What a loss of power may leave of a folder, by what was done in it. Once a file was written, its bytes are on the disk. A name is on the
 -- disk once the folder was synced behind the deed that gave it. Until then each name may be, for itself, as at any moment since.
-use Rattle.std.specs.Prelude.{◌≡◌, ◌⊎◌, ◌++◌, ◌∷◌, [], Bool, List, None, Option, Some, false, if◌then◌else◌, nat_eq, true, ℕ}
-use Rattle.std.specs.Cmp.Lexicographic.{pointwise}
+use Rattle.std.specs.Prelude.{◌≡◌, ◌⊎◌, ◌++◌, ◌∷◌, [], Bool, List, None, Option, Some, false, bytes_eq, if◌then◌else◌, true, ℕ}
 use Rattle.std.specs.List.{Contains, list_any}
 use Rattle.x12_acks.specs.Accepted.{AcceptedSet}
 use Rattle.x12_profile.specs.Interchange.{Bytes}
@@ -14,14 +13,11 @@ use Rattle.x12_spool.specs.Whole.{puts_whole}
 abbrev pub Folder : Type 0
 Folder = List ℕ → Option Bytes
 
-abbrev pub is_name : List ℕ → List ℕ → Bool
-is_name one other = pointwise nat_eq one other
-
 -- what stands under each name after a deed, by what stood there before
 abbrev pub after_deed : Deed → Folder → Folder
-after_deed (Writes at bytes) was = λ name. if is_name at name then Some bytes else was name
-after_deed (Renames from to) was = λ name. if is_name to name then was from else (if is_name from name then None else was name)
-after_deed (Removes at) was = λ name. if is_name at name then None else was name
+after_deed (Writes at bytes) was = λ name. if bytes_eq at name then Some bytes else was name
+after_deed (Renames from to) was = λ name. if bytes_eq to name then was from else (if bytes_eq from name then None else was name)
+after_deed (Removes at) was = λ name. if bytes_eq at name then None else was name
 after_deed other was = was
 
 abbrev pub is_sync : Deed → Bool
