@@ -8,10 +8,10 @@ over one folder (two); a watch on a terminal (terminal); programs that are kille
 in all (200), while N orders are submitted (400), and then finished, where all nodes watch and the orders are dropped into
 `submit` (watched), and command by command, a fifth of them (kills); files that come twice and in another order (twice); a
 carrier that loses each third file (losses); a disk that is full, where a small one can be mounted (full); file calls of commands
-that are refused, some of them or by --each all (refused); numbers far apart (far); records that something else changed (verify).
+that are refused, some of them or by --each all (refused); numbers far apart (far); records that something else changed (verify); watches whose clock moves on (clock).
 Of two connected hubs: kills (hubs-kills); file calls that are refused (hubs-refused); a carrier between them that loses each third
 file (hubs-losses); a ring (hubs-ring). Each story ends with `reconcile` and with what its status says. Kills and orders are drawn
-by the seed. What is refused on the command line is in checks/rows/mailbox.txt and connected.txt.
+by the seed. What is refused on the command line, and what lists say, is in checks/rows: mailbox.txt, connected.txt, lists.txt.
 
 Prints a line for what is wrong, and last 'N passed, M failed'.
 """
@@ -28,6 +28,7 @@ TOP = os.path.dirname(HERE)
 sys.path[:0] = [f"{HERE}/mailbox", f"{HERE}/tools"]
 from carriers import try_far, try_hubs_losses, try_hubs_ring, try_losses, try_twice
 from changes import try_verify
+from clock import try_clock
 from kills import try_kills, try_terminal, try_two, try_watched
 from places import CLOCK, Mailboxes, Place
 from refusals import try_full, try_refused
@@ -88,6 +89,7 @@ def stories(asked):
         "refused": lambda *words: try_refused(*words, strides(1, 7)),
         "far": try_far,
         "verify": try_verify,
+        "clock": try_clock,
         "hubs-kills": lambda *words: try_kills(*words, *part, TWO_HUBS),
         "hubs-refused": lambda *words: try_refused(*words, strides(4, 16), TWO_HUBS),
         "hubs-losses": try_hubs_losses,

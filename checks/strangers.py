@@ -361,8 +361,28 @@ def a_partner_reads_and_writes_his_own_alone(place):
     return is_so, f"{reads} {wrote} {[it[:40] for it in others]} {out} {err}"
 
 
+def a_file_that_may_not_be_read(place):
+    """It stays, and is told; once it may be read, the next turn takes it."""
+    place.write("hub/ZZALPHA/in/x", order(1))
+    first = place.run("chmod 0 hub/ZZALPHA/in/x; ./van run hub")
+    second = place.run("chmod 600 hub/ZZALPHA/taking/in/x; ./van run hub")
+    told = "van: hub/ZZALPHA/in/x is passed over: Permission denied (os error 13)\n"
+    return first == (1, "", told) and second[1].startswith("hub/ZZALPHA/in/x: 000000001 from"), f"{first} {second}"
+
+
+def a_file_that_can_not_be_removed(place):
+    """An item's file that a carrier left: the turn isn't done, and says so; the next one removes it."""
+    place.write("o.edi", order(1))
+    place.wants("./van submit alpha o.edi && ./van run hub && ./van run beta && cp o.edi hub/ZZBETA/out/item-000000001.edi")
+    first = place.run("chmod 500 hub/ZZBETA/out; ./van run hub")
+    second = place.run("chmod 700 hub/ZZBETA/out; ./van run hub")
+    told = "van: hub/ZZBETA/out/item-000000001.edi: it can't be removed: Permission denied (os error 13)\n"
+    return (first[0], first[2], second[0]) == (1, told, 0) and not place.names("hub/ZZBETA/out"), f"{first} {second}"
+
+
 # The rows that want two users; the others want one.
-WITH_TWO = [links_of_a_partner_are_not_followed, a_partner_reads_and_writes_his_own_alone]
+WITH_TWO = [links_of_a_partner_are_not_followed, a_partner_reads_and_writes_his_own_alone, a_file_that_may_not_be_read,
+            a_file_that_can_not_be_removed]
 
 
 def rows():

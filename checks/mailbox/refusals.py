@@ -96,7 +96,7 @@ def try_refused(tally, program, room, strides, hubs=("hub",)):
             refusing = f"REFUSED_CALL={number} LD_PRELOAD={library}"
             status, out, err = copy.run(f"{refusing} ./van {command} 9>refused")
             refused = os.path.getsize(copy.path("refused")) > 0
-            is_told = err.startswith("van: ") if status else not err
+            is_told = err.startswith("van: ") and "no control number" not in err if status else not err
             tally.want("refused", status in (0, 1) and is_told, f"{command}, call {number}: status {status}, {out} {err}")
             taken = copy.names("beta/posted")
             turns = f"for who in alpha {' '.join(way)}; do ./van run $who; done"
