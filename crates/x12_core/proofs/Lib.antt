@@ -1,3 +1,4 @@
 pub mod SubmissionLemmas
 mod AskLemmas
 pub mod ActionLemmas
+mod DiskLemmas

@@ -23,6 +23,11 @@ abbrev pub core_answers : {R H : Type 0} → Core R H → Bool
 core_answers (core.Station s) = s.answers
 core_answers (core.Hub h) = h.answers
 
+-- whether their disk has returned what was written
+abbrev pub core_clean : {R H : Type 0} → Core R H → Bool
+core_clean (core.Station s) = s.clean
+core_clean (core.Hub h) = h.clean
+
 -- how often its records failed
 abbrev pub core_failures : {R H : Type 0} → Core R H → ℕ
 core_failures (core.Station s) = s.failures

@@ -10,3 +10,4 @@ pub mod Submission
 pub mod Fault
 pub mod Core
 pub mod Bound
+pub mod Disk

@@ -5,12 +5,13 @@ ghost use Rattle.x12_hub.specs.Record.{decision_view};
 ghost use Rattle.x12_core.specs.Action.{acts};
 ghost use Rattle.x12_core.specs.Ask.{does_at, Comes, Do};
 ghost use Rattle.x12_core.specs.Bound.{hub_bound};
+ghost use Rattle.x12_core.specs.Disk.{hub_disk, HubStopsWhole, KeepsAnswers};
 ghost use Rattle.x12_core.specs.Core.{IsCoreRefusal};
 ghost use Rattle.x12_core.specs.Effect.{comes_to_hub, refusals, reports_taken};
-ghost use Rattle.x12_core.specs.Fault.{CountsCore, IsNotMemory};
+ghost use Rattle.x12_core.specs.Fault.{CountsCore};
 ghost use Rattle.x12_core.specs.Sends.{sends_view};
 ghost use Rattle.x12_core.specs.Packet.{PacketName, Refusal};
-ghost use Rattle.x12_core.specs.Submission.{listed};
+ghost use Rattle.x12_core.specs.Submission.{listed, TakesNothing};
 ghost use Rattle.x12_core.specs.View.{action_view, load_view, packet_view, ref_view};
 ghost use Rattle.x12_core.specs.Node.{IsHub};
 ghost use Rattle.x12_profile.specs.X12.{x12};
@@ -60,14 +61,15 @@ fn reported(hub: u16, to: u16, item: u32, decision: Decision) -> Sends
 
 /// The hub of this site acts so. L7 and L3.
 fn act<H: HubRecords>(hub: &mut Hub<H>, site: Site, action: &Action) -> Result<Sends, CoreFault>
-    ensures never_won_back { IsTrue hub.new.answers → IsTrue hub.old.answers }
+    ensures disk { KeepsAnswers result (hub_disk hub.old) (hub_disk hub.new) }
+    ensures crash { HubStopsWhole H.HubRecords (acts x12 site (action_view action.now) (IsHub hub.old.hub))
+        result hub.old hub.new }
     ensures took { IsTrue hub.new.answers → IfOk result (λ sends.
         acts x12 site (action_view action.now) (IsHub hub.old.hub)
         ≡ Some (record { node = IsHub hub.new.hub; sends = sends_view sends })) }
-    ensures submits { IfOk result (λ sends. listed sends ≡ []) }
+    ensures nothing { TakesNothing result }
     ensures refused { IsTrue hub.new.answers → IfErr result
         (IsCoreRefusal site.node (Do (action_view action.now)) (IsHub hub.old.hub)) }
-    ensures copies_nothing { IfErr result IsNotMemory }
     ensures unchanged { IsTrue hub.new.answers → OnErr result (hub.new.hub ≡ hub.old.hub) }
     ensures bounded { IfOk result (λ sends. length (sends_view sends)
         ≤ hub_bound (Do (action_view action.now)) hub.old.memory) }
@@ -105,14 +107,15 @@ fn take<H: HubRecords>(
     load: &Load,
     at: &Moment,
 ) -> Result<Sends, CoreFault>
-    ensures never_won_back { IsTrue hub.new.answers → IsTrue hub.old.answers }
+    ensures disk { KeepsAnswers result (hub_disk hub.old) (hub_disk hub.new) }
+    ensures crash { HubStopsWhole H.HubRecords (comes_to_hub x12 node from at.now hub.old.hub (load_view load.now))
+        result hub.old hub.new }
     ensures took { IsTrue hub.new.answers → IfOk result (λ sends.
         comes_to_hub x12 node from at.now hub.old.hub (load_view load.now)
         ≡ Some (record { node = IsHub hub.new.hub; sends = sends_view sends })) }
-    ensures submits { IfOk result (λ sends. listed sends ≡ []) }
+    ensures nothing { TakesNothing result }
     ensures refused { IsTrue hub.new.answers → IfErr result (λ f. (name : PacketName) →
         IsCoreRefusal node (Comes name from (load_view load.now) at.now) (IsHub hub.old.hub) f) }
-    ensures copies_nothing { IfErr result IsNotMemory }
     ensures unchanged { IsTrue hub.new.answers → OnErr result (hub.new.hub ≡ hub.old.hub) }
     ensures bounded { IfOk result (λ sends. length (sends_view sends) ≤ 2) }
     ensures store { CountsCore result hub.old.failures hub.new.failures }
@@ -143,14 +146,15 @@ pub fn ask_hub<H: HubRecords>(
     site: Site,
     ask: &AskRef<'_>,
 ) -> Result<Sends, CoreFault>
-    ensures never_won_back { IsTrue hub.new.answers → IsTrue hub.old.answers }
+    ensures disk { KeepsAnswers result (hub_disk hub.old) (hub_disk hub.new) }
+    ensures crash { HubStopsWhole H.HubRecords (does_at x12 site (ref_view ask.now) (IsHub hub.old.hub))
+        result hub.old hub.new }
     ensures took { IsTrue hub.new.answers → IfOk result (λ sends.
         does_at x12 site (ref_view ask.now) (IsHub hub.old.hub)
         ≡ Some (record { node = IsHub hub.new.hub; sends = sends_view sends })) }
-    ensures submits { IfOk result (λ sends. listed sends ≡ []) }
+    ensures nothing { TakesNothing result }
     ensures refused { IsTrue hub.new.answers →
         IfErr result (IsCoreRefusal site.node (ref_view ask.now) (IsHub hub.old.hub)) }
-    ensures copies_nothing { IfErr result IsNotMemory }
     ensures unchanged { IsTrue hub.new.answers → OnErr result (hub.new.hub ≡ hub.old.hub) }
     ensures bounded { IfOk result (λ sends.
         length (sends_view sends) ≤ hub_bound (ref_view ask.now) hub.old.memory) }

@@ -1,11 +1,13 @@
 //! A core: a station or a hub, and what it does where it is asked.
 
-ghost use Rattle.std.specs.Prelude.{◌≡◌, ◌≤◌, ℕ, IsTrue, IfErr, IfOk, OnErr, Some, length};
+ghost use Rattle.std.specs.Prelude.{◌≡◌, ◌≤◌, ℕ, IsTrue, IfErr, IfOk, None, OnErr, Some, length};
 ghost use Rattle.x12_core.specs.declared.packet.Site.{Site};
 ghost use Rattle.x12_acks.specs.Key.{key_view};
 ghost use Rattle.x12_core.specs.Ask.{does_at, suits, Fate};
 ghost use Rattle.x12_core.specs.Bound.{core_bound, hub_bound, station_bound, SendsAtMost};
 ghost use Rattle.x12_core.specs.Core.{core_answers, core_failures, node_of, Did, IsCoreRefusal};
+ghost use Rattle.x12_core.specs.Disk.{asks_own, core_disk, hub_disk, station_disk};
+ghost use Rattle.x12_core.specs.Disk.{CoreStopsWhole, HubStopsWhole, KeepsAnswers, StopsWhole};
 ghost use Rattle.x12_core.specs.Fault.{CountsCore};
 ghost use Rattle.x12_core.specs.Effect.{Effect};
 ghost use Rattle.x12_core.specs.Node.{IsHub, IsStation};
@@ -52,6 +54,9 @@ fn tell<R: Records>(station: &mut Station<R>, key: &SetKey) -> Result<Answer, Co
         station.new.state ≡ station.old.state }
     ensures bounded { (most : ℕ) → IfOk result (SendsAtMost most) }
     ensures store { CountsCore result station.old.failures station.new.failures }
+    ensures disk { IsTrue (asks_own (Fate (key_view key.now)) (IsStation station.old.state)) →
+        KeepsAnswers result (station_disk station.old) (station_disk station.new) }
+    ensures crash { StopsWhole R.Records None result station.old station.new }
 {
     Ok(Answer::Fate(station.fate(key)?))
 }
@@ -73,6 +78,11 @@ fn apply_to_station<R: Records>(
     ensures bounded { IfOk result
         (SendsAtMost (station_bound (ask_view ask.now) station.old.memory)) }
     ensures store { CountsCore result station.old.failures station.new.failures }
+    ensures disk { IsTrue (asks_own (ask_view ask.now) (IsStation station.old.state)) →
+        KeepsAnswers result (station_disk station.old) (station_disk station.new) }
+    ensures crash { StopsWhole R.Records
+        (does_at x12 site (ask_view ask.now) (IsStation station.old.state))
+        result station.old station.new }
 {
     match ask.lent() {
         Ok(lent) => Ok(Answer::Sent(ask_station(alloc, station, site, &lent)?)),
@@ -82,7 +92,9 @@ fn apply_to_station<R: Records>(
 
 /// Asks the hub of this site. L7 and L3.
 fn apply_to_hub<H: HubRecords>(hub: &mut Hub<H>, site: Site, ask: &Ask) -> Result<Answer, CoreFault>
-    ensures never_won_back { IsTrue hub.new.answers → IsTrue hub.old.answers }
+    ensures disk { KeepsAnswers result (hub_disk hub.old) (hub_disk hub.new) }
+    ensures crash { HubStopsWhole H.HubRecords
+        (does_at x12 site (ask_view ask.now) (IsHub hub.old.hub)) result hub.old hub.new }
     ensures did { IsTrue hub.new.answers → IfOk result
         (Did site (ask_view ask.now) (IsHub hub.old.hub) (IsHub hub.new.hub)) }
     ensures refused { IsTrue hub.new.answers →
@@ -113,6 +125,11 @@ impl<R: Records, H: HubRecords> Core<R, H> {
             OnErr result (node_of self.new ≡ node_of self.old) }
         ensures bounded { IfOk result (SendsAtMost (core_bound (ask_view ask.now) self.old)) }
         ensures store { CountsCore result (core_failures self.old) (core_failures self.new) }
+        // of a fate of another's set, which asks no records, the disk tells nothing
+        ensures disk { IsTrue (asks_own (ask_view ask.now) (node_of self.old)) →
+            KeepsAnswers result (core_disk self.old) (core_disk self.new) }
+        ensures crash { CoreStopsWhole R.Records H.HubRecords
+            (does_at x12 site (ask_view ask.now) (node_of self.old)) result self.old self.new }
     {
         match self {
             Core::Station(station) => apply_to_station(alloc, station, site, ask),

@@ -8,6 +8,7 @@ ghost use Rattle.x12_judge.specs.Agreement.{agreement_view};
 ghost use Rattle.x12_core.specs.Action.{acts};
 ghost use Rattle.x12_core.specs.Ask.{does_at, Comes, Do};
 ghost use Rattle.x12_core.specs.Bound.{station_bound};
+ghost use Rattle.x12_core.specs.Disk.{station_disk, KeepsAnswers, StopsWhole};
 ghost use Rattle.x12_core.specs.Core.{IsCoreRefusal};
 ghost use Rattle.x12_core.specs.Effect.{comes_to_station, deposits, reports_taken};
 ghost use Rattle.x12_core.specs.Fault.{CountsCore};
@@ -79,7 +80,9 @@ fn act<R: Records>(
     site: Site,
     action: &Action,
 ) -> Result<Sends, CoreFault>
-    ensures never_won_back { IsTrue station.new.answers → IsTrue station.old.answers }
+    ensures disk { KeepsAnswers result (station_disk station.old) (station_disk station.new) }
+    ensures crash { StopsWhole R.Records (acts x12 site (action_view action.now) (IsStation station.old.state))
+        result station.old station.new }
     ensures took { IsTrue station.new.answers → IfOk result (λ sends.
         acts x12 site (action_view action.now) (IsStation station.old.state)
         ≡ Some (record { node = IsStation station.new.state; sends = sends_view sends })) }
@@ -127,7 +130,9 @@ fn take<R: Records>(
     load: &Load,
     at: &Moment,
 ) -> Result<Sends, CoreFault>
-    ensures never_won_back { IsTrue station.new.answers → IsTrue station.old.answers }
+    ensures disk { KeepsAnswers result (station_disk station.old) (station_disk station.new) }
+    ensures crash { StopsWhole R.Records (comes_to_station x12 site from at.now station.old.state (load_view load.now))
+        result station.old station.new }
     ensures took { IsTrue station.new.answers → IfOk result (λ sends.
         comes_to_station x12 site from at.now station.old.state (load_view load.now)
         ≡ Some (record { node = IsStation station.new.state; sends = sends_view sends })) }
@@ -162,7 +167,9 @@ pub fn ask_station<R: Records>(
     site: Site,
     ask: &AskRef<'_>,
 ) -> Result<Sends, CoreFault>
-    ensures never_won_back { IsTrue station.new.answers → IsTrue station.old.answers }
+    ensures disk { KeepsAnswers result (station_disk station.old) (station_disk station.new) }
+    ensures crash { StopsWhole R.Records (does_at x12 site (ref_view ask.now) (IsStation station.old.state))
+        result station.old station.new }
     ensures took { IsTrue station.new.answers → IfOk result (λ sends.
         does_at x12 site (ref_view ask.now) (IsStation station.old.state)
         ≡ Some (record { node = IsStation station.new.state; sends = sends_view sends })) }

@@ -16,9 +16,15 @@ returns-in-Some-clause-store g c = λ fs.
 
 pub returns-then-site-eq-HUB_NODE-clause-never_won_back : goal.returns-then-site-eq-HUB_NODE-clause-never_won_back
 returns-then-site-eq-HUB_NODE-clause-never_won_back g c = λ bs.
-    won_first c.args.hubs.now.first.answers c.ask_hub.new.hub.answers (bs ++ map (λ k. k.answers) (option_to_list c.args.hubs.now.second)) c.ask_hub.ensures.never_won_back
+    won_first c.args.hubs.now.first.answers c.ask_hub.new.hub.answers (bs ++ map (λ k. k.answers) (option_to_list c.args.hubs.now.second)) c.ask_hub.ensures.disk.never_won_back
 
 pub returns-in-Some-clause-never_won_back : goal.returns-in-Some-clause-never_won_back
 returns-in-Some-clause-never_won_back g c =
     λ bs. subst (λ o. NoneWonBack (founders_beside c.args.hubs.now.first o bs) (founders_beside c.args.hubs.now.first (Some c.ask_hub-in-Some.new.hub) bs)) (sym c.in-Some.is)
-    (won_last (c.args.hubs.now.first.answers ∷ bs) c.in-Some.hub.answers c.ask_hub-in-Some.new.hub.answers c.ask_hub-in-Some.ensures.never_won_back)
+    (won_last (c.args.hubs.now.first.answers ∷ bs) c.in-Some.hub.answers c.ask_hub-in-Some.new.hub.answers c.ask_hub-in-Some.ensures.disk.never_won_back)
+
+pub returns-then-site-eq-HUB_NODE-clause-submits : goal.returns-then-site-eq-HUB_NODE-clause-submits
+returns-then-site-eq-HUB_NODE-clause-submits g c = c.ask_hub.ensures.nothing.submits
+
+pub returns-in-Some-clause-submits : goal.returns-in-Some-clause-submits
+returns-in-Some-clause-submits g c = c.ask_hub-in-Some.ensures.nothing.submits

@@ -18,7 +18,7 @@ returns-clause-never_won_back g c =
     let old = c.index_mut-station.result.now in
     let new = c.ask_station.new.station in
     let within : i < length ss.items = let e = ss.ok.0 in let low = c.requires.there.0 in let high = c.requires.there.1 in omega arith in
-    won_among ss.items i old new within c.index_mut-station.ensures.value c.ask_station.ensures.never_won_back
+    won_among ss.items i old new within c.index_mut-station.ensures.value c.ask_station.ensures.disk.never_won_back
 
 pub returns-clause-took : goal.returns-clause-took
 returns-clause-took g c = λ answers.
