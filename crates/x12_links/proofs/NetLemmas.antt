@@ -15,6 +15,7 @@ use Rattle.x12_links.specs.declared.inbox.Inlet.{Inlet}
 use Rattle.x12_links.specs.declared.link.Link.{Link}
 use Rattle.x12_links.specs.declared.link.Way.{Way}
 use Rattle.x12_links.specs.declared.plan.FaultPlan.{FaultPlan}
+use Rattle.x12_links.specs.declared.worker.Delivery.{Delivery}
 use Rattle.x12_links.specs.Link.{IsInlet, IsLane, IsLink}
 use Rattle.x12_links.specs.Net.{AreConnected, AreDoneLinks, AreLanes, AreLinks, ArePaired, AreSameNumbers, IsConnected, IsInboxHeard, IsNodeHeard, IsAdded}
 use Rattle.x12_links.specs.Worker.{senders_of, AreDistinct, IsChosen, IsServing, Serves}
@@ -137,17 +138,6 @@ module _ {P : Type 0} (follows : Way → Option P → P → Type 0) where
   connected_more plan node links links' inlets inlets' l i was new isnt puts puts' =
       subst (λ x. AreConnected follows plan node x inlets') (sym puts) (subst (λ y. AreConnected follows plan node (links ++ l ∷ []) y) (sym puts') (connected_push plan node links inlets l i was new isnt))
 
-  -- a node to which nothing was delivered
-  pub none_heard : (delivered : ℕ → List P) (plan : FaultPlan) (node : ℕ) (senders : List ℕ) → ((from : ℕ) → delivered from ≡ []) → IsNodeHeard follows plan node senders delivered
-  none_heard delivered plan node senders none = record {
-    each = λ k d within. record {
-      took = [];
-      lane = record { sent = []; last = None; in_turn = refl; rest = []; front = refl };
-      chosen = record { kept = []; each = refl; are = none (get_or senders k d) };
-    };
-    only = λ from isnt. none from;
-  }
-
   -- new links may begin
   pub links_begin : (plan : FaultPlan) (node : ℕ) (links : List (Link P)) (inlets : List (Inlet P)) → AreConnected follows plan node links inlets → AreLinks follows links
   links_begin plan node links inlets is = record {
@@ -155,9 +145,9 @@ module _ {P : Type 0} (follows : Way → Option P → P → Type 0) where
   }
 
   -- and a worker out of new inlets
-  pub worker_begins : (delivered : ℕ → List P) (plan : FaultPlan) (node : ℕ) (links : List (Link P)) (inlets : List (Inlet P)) → AreConnected follows plan node links inlets → ((from : ℕ) → delivered from ≡ []) → IsServing delivered inlets
-  worker_begins delivered plan node links inlets is none = record {
-    are = λ k d within. served_none delivered (get_or inlets k d) (none (get_or inlets k d).from)
+  pub worker_begins : (answered : ℕ → P → Delivery → Type 0) (delivered : ℕ → List P) (plan : FaultPlan) (node : ℕ) (links : List (Link P)) (inlets : List (Inlet P)) → AreConnected follows plan node links inlets → ((from : ℕ) → delivered from ≡ []) → IsServing answered 0 delivered inlets
+  worker_begins answered delivered plan node links inlets is none = record {
+    are = λ k d within. served_none answered 0 delivered (get_or inlets k d) (none (get_or inlets k d).from)
         (is.each k (at links k (omega (arith, within, is.long))) d (omega (arith, within, is.long))).inlet;
     apart = is.apart;
     only = λ from isnt. none from;
@@ -174,9 +164,9 @@ module _ {P : Type 0} (follows : Way → Option P → P → Type 0) where
       (each 0 l i (omega arith), pair_all links inlets (omega (arith, same)) (λ k d e within. each (suc k) d e (omega (arith, within))))
 
   -- once they ended, each link and the inlet at its place are of one inbox
-  pub still_paired : (delivered : ℕ → List P) (plan : FaultPlan) (node : ℕ) (links links' : List (Link P)) (inlets inlets' : List (Inlet P)) → AreConnected follows plan node links inlets → AreDoneLinks follows links links' → Serves delivered inlets inlets'
+  pub still_paired : (answered : ℕ → P → Delivery → Type 0) (delivered : ℕ → List P) (plan : FaultPlan) (node : ℕ) (links links' : List (Link P)) (inlets inlets' : List (Inlet P)) → AreConnected follows plan node links inlets → AreDoneLinks follows links links' → Serves answered delivered inlets inlets'
       → ArePaired follows links' inlets'
-  still_paired delivered plan node links links' inlets inlets' was done serves =
+  still_paired answered delivered plan node links links' inlets inlets' was done serves =
       let long : length inlets' ≡ length inlets = as_long (λ (i : Inlet P). i.receiver) inlets' inlets serves.same.0 in
       pair_all links' inlets' (omega (arith, long, done.all, was.long)) (λ k d e within.
       let here : k < length links = omega (arith, within, done.all) in
@@ -201,9 +191,21 @@ module _ {P : Type 0} (follows : Way → Option P → P → Type 0) where
   lane_as : (w w' : Way) (p p' : FaultPlan) (took : List P) → w ≡ w' → p ≡ p' → IsLane (follows w) p took → IsLane (follows w') p' took
   lane_as w w' p p' took ways plans is = subst (λ x. IsLane (follows x) p' took) ways (subst (λ y. IsLane (follows w) y took) plans is)
 
+module _ {P : Type 0} (follows : Way → Option P → P → Type 0) (answered : ℕ → P → Delivery → Type 0) where
+  -- a node to which nothing was delivered
+  pub none_heard : (delivered : ℕ → List P) (plan : FaultPlan) (node : ℕ) (senders : List ℕ) → ((from : ℕ) → delivered from ≡ []) → IsNodeHeard follows answered plan node senders delivered
+  none_heard delivered plan node senders none = record {
+    each = λ k d within. record {
+      took = [];
+      lane = record { sent = []; last = None; in_turn = refl; rest = []; front = refl };
+      chosen = record { asked = []; each = λ j a none. absurd (omega (arith, none)); are = none (get_or senders k d); cut = []; few = omega arith; all = refl };
+    };
+    only = λ from isnt. none from;
+  }
+
   -- what was delivered out of an inbox of a node that ended
-  inbox_heard : (delivered : ℕ → List P) (plan : FaultPlan) (node : ℕ) (links links' : List (Link P)) (inlets inlets' : List (Inlet P)) → AreConnected follows plan node links inlets → AreDoneLinks follows links links' → Serves delivered inlets inlets'
-      → AreLanes follows links' inlets' → (k : ℕ) (e : Inlet P) → k < length inlets → IsInboxHeard (follows (record { from = (get_or inlets k e).from; to = node })) plan (delivered (get_or inlets k e).from)
+  inbox_heard : (delivered : ℕ → List P) (plan : FaultPlan) (node : ℕ) (links links' : List (Link P)) (inlets inlets' : List (Inlet P)) → AreConnected follows plan node links inlets → AreDoneLinks follows links links' → Serves answered delivered inlets inlets'
+      → AreLanes follows links' inlets' → (k : ℕ) (e : Inlet P) → k < length inlets → IsInboxHeard (follows (record { from = (get_or inlets k e).from; to = node })) (answered (get_or inlets k e).from) plan (delivered (get_or inlets k e).from)
   inbox_heard delivered plan node links links' inlets inlets' was done serves lanes k e within =
       let long : length inlets' ≡ length inlets = as_long (λ (i : Inlet P). i.receiver) inlets' inlets serves.same.0 in
       let here : k < length links = omega (arith, within, was.long) in
@@ -213,20 +215,20 @@ module _ {P : Type 0} (follows : Way → Option P → P → Type 0) where
       let did = done.each k d here in
       record {
         took = (view (get_or inlets' k e).pass).took;
-        lane = lane_as _ _ _ _ _ (did.same.1 ∙ one.way_is) (did.same.2 ∙ one.plan_is) (lane_at links' inlets' k d e lanes (omega (arith, here, done.all)) there);
-        chosen = subst (λ from. IsChosen (delivered from) (view (get_or inlets' k e).pass).took) (mapped (λ (i : Inlet P). i.from) inlets' inlets k e serves.same.1 there within) (serves.serving.are k e there).1;
+        lane = lane_as follows _ _ _ _ _ (did.same.1 ∙ one.way_is) (did.same.2 ∙ one.plan_is) (lane_at follows links' inlets' k d e lanes (omega (arith, here, done.all)) there);
+        chosen = subst (λ from. IsChosen (answered from) 1 (delivered from) (view (get_or inlets' k e).pass).took) (mapped (λ (i : Inlet P). i.from) inlets' inlets k e serves.same.1 there within) (serves.serving.are k e there).1;
       }
 
-  heard_from : (delivered : ℕ → List P) (plan : FaultPlan) (node : ℕ) (inlets : List (Inlet P)) → ((k : ℕ) (e : Inlet P) → k < length inlets → IsInboxHeard (follows (record { from = (get_or inlets k e).from; to = node })) plan (delivered (get_or inlets k e).from))
-      → (from : ℕ) → Contains (senders_of inlets) from → IsInboxHeard (follows (record { from = from; to = node })) plan (delivered from)
+  heard_from : (delivered : ℕ → List P) (plan : FaultPlan) (node : ℕ) (inlets : List (Inlet P)) → ((k : ℕ) (e : Inlet P) → k < length inlets → IsInboxHeard (follows (record { from = (get_or inlets k e).from; to = node })) (answered (get_or inlets k e).from) plan (delivered (get_or inlets k e).from))
+      → (from : ℕ) → Contains (senders_of inlets) from → IsInboxHeard (follows (record { from = from; to = node })) (answered from) plan (delivered from)
   heard_from delivered plan node inlets each from has =
       let within : has.0 < length inlets = omega (arith, has.1, length-map inlets (λ (i : Inlet P). i.from)) in
       let e : Inlet P = at inlets has.0 within in
-      subst (λ x. IsInboxHeard (follows (record { from = x; to = node })) plan (delivered x)) (sym (get_or-map (λ (i : Inlet P). i.from) inlets has.0 e from within) ∙ has.2) (each has.0 e within)
+      subst (λ x. IsInboxHeard (follows (record { from = x; to = node })) (answered x) plan (delivered x)) (sym (get_or-map (λ (i : Inlet P). i.from) inlets has.0 e from within) ∙ has.2) (each has.0 e within)
 
   -- of each inbox of a node that ended
   pub node_heard : (delivered : ℕ → List P) (plan : FaultPlan) (node : ℕ) (senders : List ℕ) (links links' : List (Link P)) (inlets inlets' : List (Inlet P)) → AreConnected follows plan node links inlets → AreSameNumbers senders (senders_of inlets)
-      → AreDoneLinks follows links links' → Serves delivered inlets inlets' → AreLanes follows links' inlets' → IsNodeHeard follows plan node senders delivered
+      → AreDoneLinks follows links links' → Serves answered delivered inlets inlets' → AreLanes follows links' inlets' → IsNodeHeard follows answered plan node senders delivered
   node_heard delivered plan node senders links links' inlets inlets' was same done serves lanes = record {
     each = λ k d within. heard_from delivered plan node inlets (inbox_heard delivered plan node links links' inlets inlets' was done serves lanes) (get_or senders k d) (same.each k d within);
     only = λ from isnt. serves.serving.only from (λ has. isnt (All-contains (Contains senders) (senders_of inlets) from same.only (subst (λ xs. Contains xs from) serves.same.1 has)));
@@ -234,8 +236,8 @@ module _ {P : Type 0} (follows : Way → Option P → P → Type 0) where
 
   -- what nodes heard, where they are a slice of all of a vector
   pub all_heard : {E : Type 0} → (node : E → ℕ) (senders : E → List ℕ) (delivered : E → ℕ → List P) (plan : FaultPlan) (old lent new : List E) (n : ℕ) → lent ≡ old → n ≡ length old → length new ≡ length lent
-      → ((i : ℕ) (e : E) → i < length lent → IsNodeHeard follows plan (node (get_or lent i e)) (senders (get_or lent i e)) (delivered (get_or new i e)))
-      → (i : ℕ) (e : E) → i < length old → IsNodeHeard follows plan (node (get_or old i e)) (senders (get_or old i e)) (delivered (get_or (take n (new ++ drop (length new) old)) i e))
+      → ((i : ℕ) (e : E) → i < length lent → IsNodeHeard follows answered plan (node (get_or lent i e)) (senders (get_or lent i e)) (delivered (get_or new i e)))
+      → (i : ℕ) (e : E) → i < length old → IsNodeHeard follows answered plan (node (get_or old i e)) (senders (get_or old i e)) (delivered (get_or (take n (new ++ drop (length new) old)) i e))
   all_heard node senders delivered plan old lent new n is all same each i e within =
-      subst (λ xs. IsNodeHeard follows plan (node (get_or old i e)) (senders (get_or old i e)) (delivered (get_or xs i e))) (sym (written old new n all (same ∙ ap length is)))
-      (subst (λ xs. IsNodeHeard follows plan (node (get_or xs i e)) (senders (get_or xs i e)) (delivered (get_or new i e))) is (each i e (subst (λ m. i < m) (sym (ap length is)) within)))
+      subst (λ xs. IsNodeHeard follows answered plan (node (get_or old i e)) (senders (get_or old i e)) (delivered (get_or xs i e))) (sym (written old new n all (same ∙ ap length is)))
+      (subst (λ xs. IsNodeHeard follows answered plan (node (get_or xs i e)) (senders (get_or xs i e)) (delivered (get_or new i e))) is (each i e (subst (λ m. i < m) (sym (ap length is)) within)))

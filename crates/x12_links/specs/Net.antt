@@ -7,23 +7,25 @@ use Rattle.x12_links.specs.declared.inbox.Inlet.{Inlet}
 use Rattle.x12_links.specs.declared.link.Link.{Link}
 use Rattle.x12_links.specs.declared.link.Way.{Way}
 use Rattle.x12_links.specs.declared.plan.FaultPlan.{FaultPlan}
+use Rattle.x12_links.specs.declared.worker.Delivery.{Delivery}
 use Rattle.x12_links.specs.Link.{IsInlet, IsLane, IsLink, IsNewInlet, IsSameLink}
 use Rattle.x12_links.specs.Worker.{senders_of, AreDistinct, IsChosen}
 
-module _ {P : Type 0} (follows : Option P → P → Type 0) where
-  -- What was delivered of a sender's parcels is what was taken out of their inbox, in its order, without some of it; and that
-  -- is a front of what the plan makes of parcels that were sent this way, one behind the other.
+module _ {P : Type 0} (follows : Option P → P → Type 0) (answers : P → Delivery → Type 0) where
+  -- What was taken out of an inbox is a front of what the plan makes of parcels that were sent this way, one behind the other.
+  -- The node was asked for each, in this order, and what it took was delivered; at most the last is cut off by a halt.
   pub record IsInboxHeard (plan : FaultPlan) (delivered : List P) : Type 0 where
     pub took : List P
     pub lane : IsLane follows plan took
-    pub chosen : IsChosen delivered took
+    pub chosen : IsChosen answers 1 delivered took
 
-module _ {P : Type 0} (follows : Way → Option P → P → Type 0) where
+module _ {P : Type 0} (follows : Way → Option P → P → Type 0) (answered : ℕ → P → Delivery → Type 0) where
   -- and so of the parcels of each node that sends to this one; of other nodes' none was delivered
   pub record IsNodeHeard (plan : FaultPlan) (node : ℕ) (senders : List ℕ) (delivered : ℕ → List P) : Type 0 where
-    pub each : All (λ from. IsInboxHeard (follows (record { from = from; to = node })) plan (delivered from)) senders
+    pub each : All (λ from. IsInboxHeard (follows (record { from = from; to = node })) (answered from) plan (delivered from)) senders
     pub only : (from : ℕ) → ¬ (Contains senders from) → delivered from ≡ []
 
+module _ {P : Type 0} (follows : Way → Option P → P → Type 0) where
   -- a link of this plan into a node, and the inlet of its inbox, out of which nothing was taken
   pub record IsConnected (plan : FaultPlan) (node : ℕ) (l : Link P) (i : Inlet P) : Type 0 where
     pub link : IsLink follows l

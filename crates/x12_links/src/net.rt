@@ -36,17 +36,18 @@ fn run_threads<P: Copy + Send, D: Recipient<P> + Send, W: Wire<P> + Sync, R: Thr
     inlets: &mut Vec<Inlet<P>>,
 )
     requires links { AreLinks (W.follows wire.now) links.old }
-    requires inlets { IsServing (D.delivered recipient.old) inlets.old.items }
+    requires inlets { IsServing D.answered 0 (D.delivered recipient.old) inlets.old.items }
     ensures links { AreDoneLinks (W.follows wire.now) links.old links.new }
-    ensures inlets { Serves (D.delivered recipient.new) inlets.old.items inlets.new.items }
+    ensures inlets { Serves D.answered (D.delivered recipient.new) inlets.old.items inlets.new.items }
 {
     let mut move_parcels = ||
         requires { IsSync R.row × IsSync W.row × IsSend P.row × AreLinks (W.follows wire.now) links.now }
         ensures { AreDoneLinks (W.follows wire.entry.now) links.entry.now links.exit.now }
     { run_links(rt, wire, course, links) };
     let mut serve = ||
-        requires { IsServing (D.delivered recipient.now) inlets.now.items }
-        ensures { Serves (D.delivered recipient.exit.now) inlets.entry.now.items inlets.exit.now.items }
+        requires { IsServing D.answered 0 (D.delivered recipient.now) inlets.now.items }
+        ensures { Serves D.answered (D.delivered recipient.exit.now)
+            inlets.entry.now.items inlets.exit.now.items }
     { run_worker(rt, course, recipient, inlets) };
     thread::join_mut(rt, &mut move_parcels, &mut serve);
 }
@@ -61,15 +62,15 @@ fn run_all<P: Copy + Send, D: Recipient<P> + Send, W: Wire<P> + Sync, R: Threads
     inlets: &mut Vec<Inlet<P>>,
 )
     requires links { AreLinks (W.follows wire.now) links.old.items }
-    requires inlets { IsServing (D.delivered recipient.old) inlets.old.items }
+    requires inlets { IsServing D.answered 0 (D.delivered recipient.old) inlets.old.items }
     ensures links { AreDoneLinks (W.follows wire.now) links.old.items links.new.items }
-    ensures inlets { Serves (D.delivered recipient.new) inlets.old.items inlets.new.items }
+    ensures inlets { Serves D.answered (D.delivered recipient.new) inlets.old.items inlets.new.items }
 {
     run_threads(rt, wire, course, links, recipient, inlets);
 }
 
 /// Connects a node, runs its threads and closes its inboxes.
-#[tactic(auto, using(crate::proofs::NetLemmas::none_heard, crate::proofs::NetLemmas::links_begin, crate::proofs::NetLemmas::worker_begins, crate::proofs::NetLemmas::still_paired, crate::proofs::NetLemmas::node_heard))]
+#[tactic(auto, using(crate::proofs::NetLemmas::links_begin, crate::proofs::NetLemmas::worker_begins, crate::proofs::NetLemmas::still_paired, crate::proofs::NetLemmas::node_heard))]
 fn run_node<P: Copy + Send, D: Recipient<P> + Send, W: Wire<P> + Sync, R: Threads + Wait + Sync>(
     rt: &R,
     alloc: Global,
@@ -78,8 +79,8 @@ fn run_node<P: Copy + Send, D: Recipient<P> + Send, W: Wire<P> + Sync, R: Thread
     endpoint: &mut Endpoint<D>,
 )
     requires { (from : ℕ) → D.delivered endpoint.old.recipient from ≡ [] }
-    ensures { IsNodeHeard (W.follows wire.now) course.now.plan endpoint.old.node endpoint.old.senders.items
-        (D.delivered endpoint.new.recipient) }
+    ensures { IsNodeHeard (W.follows wire.now) D.answered course.now.plan endpoint.old.node
+        endpoint.old.senders.items (D.delivered endpoint.new.recipient) }
 {
     let (node, plan) = (endpoint.node, course.plan);
     let Ok((mut links, mut inlets)) = connect_all(alloc, wire, plan, node, &endpoint.senders) else {
@@ -111,7 +112,7 @@ fn run_slice<P: Copy + Send, D: Recipient<P> + Send, W: Wire<P> + Sync, R: Threa
         → (from : ℕ) → D.delivered (slice_index_or endpoints.old i e).recipient from ≡ [] }
     ensures all { length endpoints.new ≡ length endpoints.old }
     ensures heard { (i : ℕ) (e : Endpoint D) → i < length endpoints.old
-        → IsNodeHeard (W.follows wire.now) plan (slice_index_or endpoints.old i e).node
+        → IsNodeHeard (W.follows wire.now) D.answered plan (slice_index_or endpoints.old i e).node
         (slice_index_or endpoints.old i e).senders.items
         (D.delivered (slice_index_or endpoints.new i e).recipient) }
 {
@@ -123,8 +124,8 @@ fn run_slice<P: Copy + Send, D: Recipient<P> + Send, W: Wire<P> + Sync, R: Threa
     let shared = &course;
     let each = move |_i: usize, endpoint: &mut Endpoint<D>|
         requires { (from : ℕ) → D.delivered endpoint.now.recipient from ≡ [] }
-        ensures { IsNodeHeard (W.follows wire.entry.now) shared.entry.now.plan
-            endpoint.entry.now.node endpoint.entry.now.senders.items
+        ensures { IsNodeHeard (W.follows wire.entry.now) D.answered
+            shared.entry.now.plan endpoint.entry.now.node endpoint.entry.now.senders.items
             (D.delivered endpoint.exit.now.recipient) }
     { run_node(rt, alloc, wire, shared, endpoint) };
     thread::for_each_mut(rt, endpoints, nodes, &each);
@@ -149,7 +150,8 @@ pub fn run_net<P: Copy + Send, D: Recipient<P> + Send, W: Wire<P> + Sync, R: Thr
         → (from : ℕ) → D.delivered (slice_index_or endpoints.old.items i e).recipient from ≡ [] }
     ensures all { length endpoints.new.items ≡ length endpoints.old.items }
     ensures heard { (i : ℕ) (e : Endpoint D) → i < length endpoints.old.items
-        → IsNodeHeard (W.follows wire.now) plan (slice_index_or endpoints.old.items i e).node
+        → IsNodeHeard (W.follows wire.now) D.answered plan
+        (slice_index_or endpoints.old.items i e).node
         (slice_index_or endpoints.old.items i e).senders.items
         (D.delivered (slice_index_or endpoints.new.items i e).recipient) }
 {

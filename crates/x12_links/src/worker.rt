@@ -1,6 +1,7 @@
 //! A worker: it takes parcels out of the inboxes of its node, and calls the node.
-ghost use Rattle.std.specs.Prelude.{◌≡◌, ◌≢◌, List, ℕ};
-ghost use Rattle.x12_links.specs.Worker.{made, AreSameInboxes, GetsOneMore, IsServed, IsServing, Serves};
+ghost use Rattle.std.specs.Prelude.{◌≡◌, ◌≢◌, IfOk, List, ℕ};
+ghost use Rattle.x12_links.specs.Worker.{cut_by, made, AreSameInboxes, GetsOneMore};
+ghost use Rattle.x12_links.specs.Worker.{IsServed, IsServing, Serves};
 
 use crate::calm::{Calm, Looks};
 use crate::course::{Course, Halt};
@@ -30,12 +31,18 @@ pub enum Progress {
 
 /// What a worker calls: a node, with the jobs that are its own.
 pub trait Recipient<P: Copy> {
+    ghost use Rattle.x12_links.specs.declared.worker.Delivery.{Delivery};
+
     /// What was delivered of each node's parcels, the oldest first.
     ghost delivered: { Self → ℕ → List P };
 
+    /// What its node answered about a parcel of the node of this number. Who wasn't asked has none.
+    ghost answered: { ℕ → P → Delivery → Type 0 };
+
     /// A parcel comes, out of the inbox for those of the node of this number.
     fn deliver<R: Wait>(&mut self, rt: &R, from: u16, parcel: P) -> Result<Delivery, Halt>
-        ensures { GetsOneMore (delivered self.old) (delivered self.new) from (made result parcel) };
+        ensures delivered { GetsOneMore (delivered self.old) (delivered self.new) from (made result parcel) }
+        ensures answered { IfOk result (λ answer. answered from parcel answer) };
 
     /// The node's next job, or an event of its own, in the turn of this number, in which a parcel came
     /// to it, or none.
@@ -52,8 +59,8 @@ fn serve<P: Copy, D: Recipient<P>, R: Wait>(
     recipient: &mut D,
     inlet: &mut Inlet<P>,
 ) -> Result<bool, Halt>
-    requires { IsServed (D.delivered recipient.old) inlet.old }
-    ensures served { IsServed (D.delivered recipient.new) inlet.new }
+    requires { IsServed D.answered 0 (D.delivered recipient.old) inlet.old }
+    ensures served { IsServed D.answered (cut_by result) (D.delivered recipient.new) inlet.new }
     ensures others { (from : ℕ) → from ≢ inlet.old.from
         → D.delivered recipient.new from ≡ D.delivered recipient.old from }
     ensures same { (inlet.new.receiver ≡ inlet.old.receiver) × (inlet.new.from ≡ inlet.old.from) }
@@ -71,8 +78,8 @@ fn serve_each<P: Copy, D: Recipient<P>, R: Wait>(
     recipient: &mut D,
     inlets: &mut Vec<Inlet<P>>,
 ) -> Result<bool, Halt>
-    requires { IsServing (D.delivered recipient.old) inlets.old.items }
-    ensures served { IsServing (D.delivered recipient.new) inlets.new.items }
+    requires { IsServing D.answered 0 (D.delivered recipient.old) inlets.old.items }
+    ensures served { IsServing D.answered (cut_by result) (D.delivered recipient.new) inlets.new.items }
     ensures same { AreSameInboxes inlets.old.items inlets.new.items }
 {
     let mut came = false;
@@ -89,8 +96,8 @@ fn wait_for_parcel<P: Copy, D: Recipient<P>, R: Wait>(
     recipient: &mut D,
     inlets: &mut Vec<Inlet<P>>,
 ) -> Result<bool, Halt>
-    requires { IsServing (D.delivered recipient.old) inlets.old.items }
-    ensures served { IsServing (D.delivered recipient.new) inlets.new.items }
+    requires { IsServing D.answered 0 (D.delivered recipient.old) inlets.old.items }
+    ensures served { IsServing D.answered (cut_by result) (D.delivered recipient.new) inlets.new.items }
     ensures same { AreSameInboxes inlets.old.items inlets.new.items }
 {
     let mut calm = Calm::new(course, recipient.patience());
@@ -114,8 +121,8 @@ fn serve_or_wait<P: Copy, D: Recipient<P>, R: Wait>(
     recipient: &mut D,
     inlets: &mut Vec<Inlet<P>>,
 ) -> Result<bool, Halt>
-    requires { IsServing (D.delivered recipient.old) inlets.old.items }
-    ensures served { IsServing (D.delivered recipient.new) inlets.new.items }
+    requires { IsServing D.answered 0 (D.delivered recipient.old) inlets.old.items }
+    ensures served { IsServing D.answered (cut_by result) (D.delivered recipient.new) inlets.new.items }
     ensures same { AreSameInboxes inlets.old.items inlets.new.items }
 {
     if serve_each(rt, recipient, inlets)? {
@@ -135,8 +142,8 @@ fn take_turn<P: Copy, D: Recipient<P>, R: Wait>(
     recipient: &mut D,
     inlets: &mut Vec<Inlet<P>>,
 ) -> Result<Progress, Halt>
-    requires { IsServing (D.delivered recipient.old) inlets.old.items }
-    ensures served { IsServing (D.delivered recipient.new) inlets.new.items }
+    requires { IsServing D.answered 0 (D.delivered recipient.old) inlets.old.items }
+    ensures served { IsServing D.answered (cut_by result) (D.delivered recipient.new) inlets.new.items }
     ensures same { AreSameInboxes inlets.old.items inlets.new.items }
 {
     let came = serve_or_wait(rt, course, recipient, inlets)?;
@@ -149,38 +156,55 @@ fn take_turn<P: Copy, D: Recipient<P>, R: Wait>(
     recipient.work(rt, turn, came)
 }
 
-/// Tells the other threads how far a worker is: that it is settled, once, or that it halts.
-fn tell(course: &Course, settled: &mut bool, told: Result<Progress, Halt>) {
+/// Tells the other threads, once, that a worker is settled.
+fn tell(course: &Course, settled: &mut bool, told: Progress) {
     match told {
-        Ok(Progress::Busy) => {}
-        Ok(Progress::Settled) => {
+        Progress::Busy => {}
+        Progress::Settled => {
             if !*settled {
                 *settled = true;
                 course.one_settled();
             }
         }
-        Err(why) => course.halt(why),
     }
 }
 
-/// The worker of a node, as a thread: so many turns, but no more once the run is settled.
+/// The turns of a worker: so many, but none once the run is settled, and none behind one that halts it.
+fn make_turns<P: Copy, D: Recipient<P>, R: Wait>(
+    rt: &R,
+    course: &Course,
+    recipient: &mut D,
+    inlets: &mut Vec<Inlet<P>>,
+)
+    requires { IsServing D.answered 0 (D.delivered recipient.old) inlets.old.items }
+    ensures { Serves D.answered (D.delivered recipient.new) inlets.old.items inlets.new.items }
+{
+    let mut settled = false;
+    for turn in 0..course.turns {
+        if course.is_settled() {
+            return;
+        }
+        match take_turn(rt, course, turn, recipient, inlets) {
+            Ok(told) => tell(course, &mut settled, told),
+            Err(why) => {
+                course.halt(why);
+                return;
+            }
+        }
+    }
+}
+
+/// The worker of a node, as a thread.
 pub(crate) fn run_worker<P: Copy, D: Recipient<P>, R: Wait>(
     rt: &R,
     course: &Course,
     recipient: &mut D,
     inlets: &mut Vec<Inlet<P>>,
 )
-    requires { IsServing (D.delivered recipient.old) inlets.old.items }
-    ensures { Serves (D.delivered recipient.new) inlets.old.items inlets.new.items }
+    requires { IsServing D.answered 0 (D.delivered recipient.old) inlets.old.items }
+    ensures { Serves D.answered (D.delivered recipient.new) inlets.old.items inlets.new.items }
 {
     course.begin();
-    let mut settled = false;
-    for turn in 0..course.turns {
-        if course.is_settled() {
-            break;
-        }
-        let told = take_turn(rt, course, turn, recipient, inlets);
-        tell(course, &mut settled, told);
-    }
+    make_turns(rt, course, recipient, inlets);
     course.one_ended();
 }
