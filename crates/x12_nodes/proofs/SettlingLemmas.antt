@@ -1,5 +1,5 @@
 -- What was checked of cells and passes makes them a settled network.
-use Rattle.std.proofs.Common.{◌≡◌, ℕ, zero, suc, ◌+◌, ◌-◌, ◌^◌, ◌<◌, List, [], ◌∷◌, Bool, true, ◌==◌, ◌&&◌, nat_lt, not, Option, Some, None, IsSome, IsTrue, All, Contains, bytes_eq, find, is_some, map, length, option_map, refl, slice_get, option_and_then, sym, ap, subst, ◌∙◌, inl, inr, arith}
+use Rattle.std.proofs.Common.{◌≡◌, ℕ, zero, suc, ◌+◌, ◌-◌, ◌^◌, ◌<◌, List, [], ◌∷◌, Bool, false, true, ◌==◌, ◌&&◌, nat_lt, not, Option, Some, None, IsSome, IsTrue, All, Contains, bytes_eq, find, is_some, map, length, option_map, refl, slice_get, option_and_then, sym, ap, subst, ◌∙◌, inl, inr, arith}
 use Rattle.std.proofs.lemmas.Bool.{and_parts, not-true}
 use Rattle.std.specs.List.{list_all}
 use Rattle.std.proofs.lemmas.Bool.Decides.{nat_tests}
@@ -137,6 +137,12 @@ pub bytes_known : (a b : List ℕ) → bytes_eq a b ≡ true → a ≡ b
 bytes_known a b e = elim (bytes_eq_tells a b) [
   | inl same ↦ same.1
   | inr apart ↦ false_is_never_true (sym apart.0 ∙ e)
+]
+
+pub bytes_apart : (a b : List ℕ) → bytes_eq a b ≡ false → ¬ (a ≡ b)
+bytes_apart a b e = elim (bytes_eq_tells a b) [
+  | inl same ↦ λ is. false_is_never_true (sym e ∙ same.0)
+  | inr apart ↦ apart.1
 ]
 
 pub load_known : (a b : Load) → load_is a b ≡ true → a ≡ b

@@ -1,9 +1,8 @@
 -- What is checked of the passes of a network's callers.
-use Rattle.std.specs.Prelude.{◌&&◌, ℕ, List, Bool, false, Option, Some, None, bytes_eq, map, option_and_then}
-use Rattle.std.specs.List.{list_all}
+use Rattle.std.specs.Prelude.{◌&&◌, ◌==◌, ℕ, List, Bool, false, Option, Some, None, map, option_and_then}
+use Rattle.std.specs.List.{list_all, list_any}
 use Rattle.x12_nodes.specs.Cell.{CellView}
 use Rattle.x12_nodes.specs.Cells.{cell_at}
-use Rattle.x12_nodes.specs.Check.{stamps_logged}
 use Rattle.x12_nodes.specs.Comparing.{answer_is, ask_is}
 use Rattle.x12_nodes.specs.Finding.{entry_at}
 use Rattle.x12_nodes.specs.Log.{LogEntry}
@@ -34,6 +33,11 @@ abbrev pub all_received : List CellView → List (List Receipt) → Bool
 all_received cells passes = list_all (list_all (receipt_stands cells)) passes
     && stamps_rise_from 0 (stamps_passed passes)
 
--- the stamps of the passes are those of the logs: no entry is in no pass
+-- a pass has a receipt under this stamp
+abbrev pub is_received : List (List Receipt) → ℕ → Bool
+is_received passes stamp = list_any (list_any (λ (r : Receipt). r.stamp == stamp)) passes
+
+-- no entry of a log is in no pass
 abbrev pub no_stranger : List CellView → List (List Receipt) → Bool
-no_stranger cells passes = bytes_eq (stamps_passed passes) (stamps_logged cells)
+no_stranger cells passes =
+    list_all (λ (c : CellView). list_all (λ (e : LogEntry). is_received passes e.stamp) c.log) cells

@@ -1,5 +1,5 @@
 -- What the logs of a network's nodes are, where nothing that is checked of them is wrong.
-use Rattle.std.specs.Prelude.{◌≡◌, ℕ, List, Bool, true, false, Some, IsSome, Contains, map, slice_get}
+use Rattle.std.specs.Prelude.{◌≡◌, ℕ, List, [], ◌∷◌, Bool, true, false, Some, IsSome, Contains, map, slice_get}
 use Rattle.std.specs.List.{list_all}
 use Rattle.x12_nodes.specs.Cell.{CellView}
 use Rattle.x12_nodes.specs.Cells.{cell_at, nodes_now, nodes_opened, split}
@@ -27,10 +27,25 @@ finds_nothing check.Replay cells passes = is_replay cells
 finds_nothing check.Receipt cells passes = all_received cells passes
 finds_nothing check.Stranger cells passes = no_stranger cells passes
 
--- what a fault says is so: the check that it names finds something wrong
+-- the checks in front of one, the nearest first
+abbrev pub checks_before : Check → List Check
+checks_before check.Stamp = []
+checks_before check.Packet = check.Stamp ∷ []
+checks_before check.Replay = check.Packet ∷ check.Stamp ∷ []
+checks_before check.Receipt = check.Replay ∷ check.Packet ∷ check.Stamp ∷ []
+checks_before check.Stranger = check.Receipt ∷ check.Replay ∷ check.Packet ∷ check.Stamp ∷ []
+
+-- each of these finds nothing wrong
+abbrev pub EachFindsNothing : List Check → List CellView → List (List Receipt) → Type 0
+EachFindsNothing [] cells passes = Unit {0}
+EachFindsNothing (c ∷ checks) cells passes =
+    (finds_nothing c cells passes ≡ true) × EachFindsNothing checks cells passes
+
+-- what a fault says is so: the check that it names is the first that finds something wrong
 abbrev pub IsInconsistent : List CellView → List (List Receipt) → SettleFault → Type 0
 IsInconsistent cells passes settle.Memory = Unit {0}
-IsInconsistent cells passes (settle.Inconsistent c) = finds_nothing c cells passes ≡ false
+IsInconsistent cells passes (settle.Inconsistent c) =
+    (finds_nothing c cells passes ≡ false) × EachFindsNothing (checks_before c) cells passes
 
 -- the checks of logs alone find nothing wrong
 pub record FindNothing (cells : List CellView) : Type 0 where

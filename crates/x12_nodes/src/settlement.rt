@@ -3,6 +3,7 @@
 ghost use Rattle.std.specs.Prelude.{◌≡◌, ◌⊎◌, IfErr, IfOk, IsTrue, length};
 ghost use Rattle.x12_nodes.specs.Settlement.{AreSettled};
 ghost use Rattle.x12_nodes.specs.Settling.{all_cells_answer, IsInconsistent};
+ghost use Rattle.x12_nodes.specs.declared.settling.SettleFault.{SettleFault};
 
 use crate::cell::NodeCell;
 use crate::node::Node;
@@ -92,8 +93,8 @@ pub fn settle<R: Records, H: HubRecords>(
     ensures inconsistent { IfErr result (λ e.
         IsInconsistent e.1.cells.items e.1.passes.items e.0) }
     ensures back { IfErr result (λ e. (e.1.passes ≡ passes) × (e.1.wire ≡ wire)) }
-    ensures nodes { IfErr result (λ e.
-        (e.1.nodes ≡ nodes) ⊎ (length e.1.cells.items ≡ length nodes.items)) }
+    ensures nodes { IfErr result (λ e. ((e.0 ≡ SettleFault.Memory) × (e.1.nodes ≡ nodes))
+        ⊎ (length e.1.cells.items ≡ length nodes.items)) }
 {
     let cells = match end_all(alloc, nodes) {
         Ok(cells) => cells,
