@@ -1,5 +1,5 @@
 -- One receipt more, and what was delivered.
-use Rattle.std.proofs.Common.{◌≡◌, ◌∙◌, ◌++◌, ◌∷◌, ◌==◌, ◌≢◌, [], Bool, Err, List, Ok, Result, ℕ, ap, append-nil, append_assoc, eqb-true, false, if◌then◌else◌, refl, sym, true}
+use Rattle.std.proofs.Common.{◌≡◌, ◌∙◌, ◌++◌, ◌∷◌, ◌==◌, ◌≢◌, [], Bool, Err, IfOk, List, Ok, Result, ℕ, ap, append-nil, append_assoc, eqb-true, false, if◌then◌else◌, refl, subst, sym, true}
 use Rattle.std.proofs.lemmas.Bool.Decides.{Decides-eqb}
 use Rattle.x12_core.specs.declared.packet.PacketName.{PacketName as CodeName}
 use Rattle.x12_core.specs.Ask.{Ask, Do, Comes, Outside, Fate}
@@ -10,7 +10,7 @@ use Rattle.x12_links.specs.declared.course.Halt.{Halt}
 use Rattle.x12_links.specs.declared.worker.Delivery.{Delivery}
 use Rattle.x12_links.specs.declared.worker.Delivery.TheVariants.{Made, Refused}
 use Rattle.x12_links.specs.Worker.{GetsOneMore, made}
-use Rattle.x12_network.specs.Deliveries.{delivered_from, is_delivery, packet_taken_from, DeliverNothing, IsCalled}
+use Rattle.x12_network.specs.Deliveries.{delivered_from, is_delivery, packet_taken_from, DeliverNothing, IsAnswer, IsCalled}
 use Rattle.x12_nodes.specs.View.{Receipt}
 
 pub delivered_more : (from : ℕ) (receipts : List Receipt) (r : Receipt) → delivered_from from (receipts ++ r ∷ []) ≡ delivered_from from receipts ++ packet_taken_from from r.ask
@@ -75,3 +75,9 @@ called_for node sender name load at (Ok Made) old new called = record {
 }
 called_for node sender name load at (Ok Refused) old new called = refused_more sender old new called
 called_for node sender name load at (Err halt) old new called = refused_more sender old new called
+
+-- the gate let the call pass, and the node refused it
+pub answer_of : {G : Type 0} (lets : G → ℕ → ℕ → Bool → Type 0) (gate : G) (node call : ℕ) (passed : Bool) (r : Result Delivery Halt) → lets gate node call passed → IfOk r (λ _. passed ≡ true) → IfOk r (IsAnswer lets)
+answer_of lets gate node call passed (Ok Made) asked is = tt
+answer_of lets gate node call passed (Ok Refused) asked is = record { gate = gate; node = node; call = call; passed = subst (lets gate node call) is asked }
+answer_of lets gate node call passed (Err halt) asked is = tt

@@ -47,6 +47,18 @@ IsCalled node ask (Ok Made) old new = (stamp : ℕ) × (answer : NodeAnswer)
 IsCalled node ask (Ok Refused) old new = new ≡ old
 IsCalled node ask (Err halt) old new = new ≡ old
 
+-- a gate let a call of a node pass
+pub record WasCalled {G : Type 0} (lets : G → ℕ → ℕ → Bool → Type 0) : Type 0 where
+  pub gate : G
+  pub node : ℕ
+  pub call : ℕ
+  pub passed : lets gate node call true
+
+-- who refused a packet is a node that was called
+abbrev pub IsAnswer : {G : Type 0} → (G → ℕ → ℕ → Bool → Type 0) → Delivery → Type 0
+IsAnswer lets Made = Unit {0}
+IsAnswer lets Refused = WasCalled lets
+
 -- receipts may have come, but none of a delivery
 pub record DeliverNothing (old new : List Receipt) : Type 0 where
   pub same : (from : ℕ) → delivered_from from new ≡ delivered_from from old

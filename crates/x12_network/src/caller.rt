@@ -1,10 +1,11 @@
 //! A node's caller: it delivers what comes out of the node's inboxes, and makes its jobs.
-ghost use Rattle.std.specs.Prelude.{◌≡◌, ◌≢◌, Ok, false};
+ghost use Rattle.std.specs.Prelude.{◌≡◌, ◌≢◌, IfOk, Ok, false, true};
 ghost use Rattle.x12_core.specs.View.{ask_view};
 ghost use Rattle.x12_links.specs.Worker.{made, GetsOneMore};
 ghost use Rattle.x12_links.specs.declared.worker.Delivery.TheVariants.{Made};
 ghost use Rattle.x12_network.specs.Deliveries.{delivered_from, is_delivery};
-ghost use Rattle.x12_network.specs.Deliveries.{DeliverNothing, IsCalled};
+ghost use Rattle.x12_network.specs.Deliveries.{DeliverNothing, IsAnswer, IsCalled};
+ghost use Rattle.x12_nodes.specs.Wire.{passed_gate};
 
 use crate::patience::Patience;
 use crate::tally::Tally;
@@ -63,7 +64,8 @@ fn sent_in(answer: &Answer) -> u64 {
 
 /// What a refusal means for the run: one for want of memory, or of the gate, ends it.
 fn refused(fault: GateFault) -> Result<Delivery, Halt>
-    ensures { result ≢ Ok Made }
+    ensures unmade { result ≢ Ok Made }
+    ensures passed { IfOk result (λ _. passed_gate fault ≡ true) }
 {
     match fault {
         GateFault::Gate => Err(Halt::Gate),
@@ -77,6 +79,7 @@ impl<R: Records, H: HubRecords, G: Gate> Caller<'_, R, H, G> {
     #[tactic(auto, using(crate::proofs::DeliveryLemmas::refused_call))]
     fn make<W: Wait>(&mut self, rt: &W, ask: Ask) -> Result<Delivery, Halt>
         ensures called { IsCalled self.old.node.now (ask_view ask) result self.old.pass self.new.pass }
+        ensures answered { IfOk result (IsAnswer G.lets) }
     {
         self.calls = self.calls.saturating_add(1);
         self.sent = 0;
@@ -131,7 +134,8 @@ impl<R: Records, H: HubRecords, G: Gate> Caller<'_, R, H, G> {
         Ok(())
     }
 
-    /// What the packet of this name carries, as it lies on the wire.
+    /// What the packet of this name carries, as it lies on the wire. None would be a packet that was
+    /// lost there.
     fn load_of<W: Wait>(&self, rt: &W, from: u16, name: PacketName) -> Result<Option<Load>, Halt> {
         let before = PacketName {
             event: name.event,
@@ -172,8 +176,9 @@ impl<R: Records, H: HubRecords, G: Gate> Caller<'_, R, H, G> {
         packet: PacketName,
         load: Load,
     ) -> Result<Delivery, Halt>
-        ensures { GetsOneMore (λ k. delivered_from k self.old.pass) (λ k. delivered_from k self.new.pass)
-            from (made result packet) }
+        ensures delivered { GetsOneMore (λ k. delivered_from k self.old.pass)
+            (λ k. delivered_from k self.new.pass) from (made result packet) }
+        ensures answered { IfOk result (IsAnswer G.lets) }
     {
         self.patience.packet_came();
         let at = self.shared.at;
@@ -221,9 +226,11 @@ impl<R: Records, H: HubRecords, G: Gate> Caller<'_, R, H, G> {
 }
 
 impl<R: Records, H: HubRecords, G: Gate> Recipient<PacketName> for Caller<'_, R, H, G> {
-    ghost use Rattle.x12_network.specs.Deliveries.{delivered_from};
+    ghost use Rattle.x12_network.specs.Deliveries.{delivered_from, IsAnswer};
 
     ghost delivered = { λ c from. delivered_from from c.pass };
+
+    ghost answered = { λ from name. IsAnswer G.lets };
 
     #[tactic(auto, using(crate::proofs::DeliveryLemmas::refused_more))]
     fn deliver<W: Wait>(
@@ -234,7 +241,7 @@ impl<R: Records, H: HubRecords, G: Gate> Recipient<PacketName> for Caller<'_, R,
     ) -> Result<Delivery, Halt> {
         match self.load_of(rt, from, parcel) {
             Ok(Some(load)) => self.make_delivery(rt, from, parcel, load),
-            Ok(None) => Ok(Delivery::Refused),
+            Ok(None) => Err(Halt::Memory),
             Err(halt) => Err(halt),
         }
     }

@@ -2,6 +2,7 @@
 ghost use Rattle.std.specs.Prelude.{◌≡◌, ◌≤◌, ◌⊎◌, [], All, IfErr, IfOk, List, OnOk, Some, length, map};
 ghost use Rattle.std.specs.Prelude.{slice_get, vec_len, vec_capacity};
 ghost use Rattle.x12_network.specs.declared.fault.NetFault.{NetFault};
+ghost use Rattle.x12_network.specs.Deliveries.{IsAnswer};
 ghost use Rattle.x12_network.specs.Linked.{AreLinked};
 ghost use Rattle.x12_network.specs.Senders.{senders_into, ArePlaced};
 
@@ -144,7 +145,8 @@ where
     ensures all { length endpoints.new.items ≡ length endpoints.old.items }
     ensures linked { (sites : List Site)
         → ArePlaced sites (map (λ e. (e.node, e.senders.items)) endpoints.old.items)
-        → AreLinked plan.now.faults sites (map (λ e. e.recipient.pass) endpoints.new.items) }
+        → AreLinked (IsAnswer G.lets) plan.now.faults sites
+        (map (λ e. e.recipient.pass) endpoints.new.items) }
 {
     run_net(rt, alloc, line, plan.faults, plan.turns, endpoints)
 }
@@ -211,13 +213,14 @@ pub fn run_network<
     gate: &G,
 ) -> Result<Vec<Pass>, (Vec<Pass>, NetFault)>
     ensures all { IfOk result (λ v. length v.items ≡ length network.now.nodes.now) }
-    ensures linked { IfOk result (λ v. AreLinked plan.now.faults network.now.sites.now v.items) }
+    ensures linked { IfOk result (λ v.
+        AreLinked (IsAnswer G.lets) plan.now.faults network.now.sites.now v.items) }
 
     // What an error leaves.
     ensures back { IfErr result (λ e. (length e.0.items ≡ length network.now.nodes.now)
         ⊎ ((e.0.items ≡ []) × (e.1 ≡ NetFault.Memory))) }
     ensures linked_back { IfErr result (λ e.
-        AreLinked plan.now.faults network.now.sites.now e.0.items) }
+        AreLinked (IsAnswer G.lets) plan.now.faults network.now.sites.now e.0.items) }
 {
     let (nodes, wire) = (network.nodes, network.wire);
     let Ok(mut endpoints) = Vec::with_capacity(alloc, nodes.len()) else {

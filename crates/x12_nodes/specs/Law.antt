@@ -7,14 +7,18 @@ use Rattle.x12_core.specs.Node.{Node}
 use Rattle.x12_core.specs.Packet.{Packet, PacketName}
 use Rattle.x12_envelopes.specs.declared.party.Party.{Party}
 use Rattle.x12_judge.specs.Agreement.{is_same_party}
-use Rattle.x12_nodes.specs.Log.{Replays, StampsRise}
-use Rattle.x12_nodes.specs.Merge.{Logged, entries_of, IsOneRun}
+use Rattle.x12_nodes.specs.Log.{FateIs, Replays, StampsRise}
+use Rattle.x12_nodes.specs.Merge.{Logged, entries_of, IsFateOf, IsOneRun, RunsAs}
+use Rattle.x12_outbound.specs.declared.fate.Fate.{Fate as SetFate}
+use Rattle.x12_profile.specs.Interchange.{Bytes, PlacedTransactionSet}
 use Rattle.x12_profile.specs.X12.{x12}
 use Rattle.x12_world.specs.Headline.{Headline}
 use Rattle.x12_world.specs.Network.{Network, IsNetwork, new_nodes, parties_in}
 use Rattle.x12_world.specs.Nodes.{Nodes, node_at, site_of}
-use Rattle.x12_world.specs.Run.{run}
-use Rattle.x12_world.specs.World.{Event}
+use Rattle.x12_station.specs.History.{key_of, submissions}
+use Rattle.x12_station.specs.Station.{Station}
+use Rattle.x12_world.specs.Run.{new_world, run}
+use Rattle.x12_world.specs.World.{Event, StationAt, World}
 
 -- the entry with this name's stamp is among these, and sent this packet at this name's place
 pub record IsSentBy (xs : List Logged) (name : PacketName) (q : Packet) : Type 0 where
@@ -94,3 +98,13 @@ abbrev pub HeadlineOfMerge : Type 0
 HeadlineOfMerge = (net : Network) → IsNetwork x12 net
     → (xs : List Logged) (last : Nodes) (one : IsOneRun net xs last)
     → (more : List Event) → Headline x12 one.world (run x12 more one.world)
+
+-- Whoever asks a station for the fate of a set that it submitted before is told some fate: the answer is never that there is no
+-- such set.
+abbrev pub SubmittedFateIsTold : Type 0
+SubmittedFateIsTold = (net : Network) → IsNetwork x12 net
+    → (before : List Logged) (w : World) → RunsAs (new_world net) [] before w
+    → (x : Logged) (new : World) → IsFateOf w x new
+    → (s : Station) (b : Bytes) (t : PlacedTransactionSet) → StationAt w x.node s
+    → Contains (submissions s.items) b → Contains (x12.sets b) t → x.entry.ask ≡ Fate (key_of x12 b t.place)
+    → (fate : SetFate) × (x.entry.answer ≡ FateIs (Some fate))

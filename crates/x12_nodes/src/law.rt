@@ -1,6 +1,7 @@
-//! The law of the merge: a function that does nothing.
+//! The laws of the merge: functions that do nothing.
 
 ghost use Rattle.x12_nodes.specs.Law.{FairAmongIsFair, HeadlineOfMerge, MergeIsRun};
+ghost use Rattle.x12_nodes.specs.Law.{SubmittedFateIsTold};
 
 use x12_profile::x12_meets_the_laws;
 use x12_world::x12;
@@ -17,4 +18,11 @@ pub fn merge_is_run()
 {
     x12_meets_the_laws();
     x12::headline();
+}
+
+/// In a run, who asks a station for the fate of a set that it submitted is told some fate.
+pub fn submitted_fate_is_told()
+    ensures { SubmittedFateIsTold }
+{
+    x12::keys();
 }

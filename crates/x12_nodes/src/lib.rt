@@ -32,7 +32,7 @@ mod writing;
 pub use cell::NodeCell;
 pub use fault::{CallFault, CellFault};
 pub use gate::{Gate, GateCall, GateFault};
-pub use law::merge_is_run;
+pub use law::{merge_is_run, submitted_fate_is_told};
 pub use log::{Answer, Receipt};
 pub use node::Node;
 pub use pass::Pass;

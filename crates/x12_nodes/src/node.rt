@@ -1,11 +1,12 @@
 //! A node behind its lock.
 
-ghost use Rattle.std.specs.Prelude.{◌≡◌, ◌<◌, ◌∷◌, ◌++◌, [], ℕ, map, IfOk, IsTrue, OnErr, OnOk};
+ghost use Rattle.std.specs.Prelude.{◌≡◌, ◌<◌, ◌∷◌, ◌++◌, [], ℕ, map, IfErr, IfOk, IsTrue, OnErr, OnOk};
 ghost use Rattle.std.specs.Prelude.{vec_len, vec_capacity};
 ghost use Rattle.x12_core.specs.Core.{core_answers};
 ghost use Rattle.x12_core.specs.View.{ask_view};
 ghost use Rattle.x12_nodes.specs.Cell.{IsNewCore};
 ghost use Rattle.x12_nodes.specs.View.{node_answer_view, receipt_view};
+ghost use Rattle.x12_nodes.specs.Wire.{passed_gate};
 
 use crate::cell::NodeCell;
 use crate::fault::CallFault;
@@ -188,6 +189,8 @@ impl<R: Records, H: HubRecords> Node<R, H> {
               answer = node_answer_view a;
             } ∷ [])) }
         ensures unchanged { OnErr result (pass.new ≡ pass.old) }
+        ensures refused { IfErr result (λ e.
+            G.lets through.now.gate.now self.now through.now.call (passed_gate e)) }
     {
         let mut cell = self.cell.lock(rt);
         if !through.gate.enter(self.number, through.call) {
@@ -219,6 +222,8 @@ impl<R: Records, H: HubRecords> Node<R, H> {
               answer = node_answer_view a;
             } ∷ [])) }
         ensures unchanged { OnErr result (pass.new ≡ pass.old) }
+        ensures refused { IfErr result (λ e.
+            G.lets through.now.gate.now self.now through.now.call (passed_gate e)) }
     {
         let told = self.call_behind(rt, wire, through, pass, event);
         through.gate.leave(self.number, through.call);

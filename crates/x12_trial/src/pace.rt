@@ -58,6 +58,8 @@ impl Pace {
 }
 
 impl Gate for Pace {
+    ghost lets = { λ _ node call passes. Unit {0} };
+
     fn enter(&self, _node: u16, _call: u64) -> bool {
         true
     }

@@ -66,6 +66,8 @@ impl<R: Records, H: HubRecords, V: Watch, W: Wait> WatchedPace<'_, R, H, V, W> {
 }
 
 impl<R: Records, H: HubRecords, V: Watch, W: Wait> Gate for WatchedPace<'_, R, H, V, W> {
+    ghost lets = { λ _ node call passes. Unit {0} };
+
     fn enter(&self, node: u16, call: u64) -> bool {
         self.pace.enter(node, call)
     }

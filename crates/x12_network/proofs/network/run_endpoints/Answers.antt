@@ -1,3 +1,4 @@
+use Rattle.x12_network.specs.Deliveries.{IsAnswer}
 use Rattle.x12_network.proofs.CallerLemmas.{linked_of, none_delivered}
 use Rattle.x12_network.proofs.network.run_endpoints.Goals as goal
 
@@ -7,4 +8,4 @@ run_net-requires-clause-new g c κs w = λ i d within from. none_delivered (λ e
 
 -- and what was delivered stands in their passes
 pub returns-clause-linked : goal.returns-clause-linked
-returns-clause-linked g c = linked_of (λ e. e.recipient.pass) c.args.plan.now.faults (λ e. (e.node, e.senders.items)) c.args.endpoints.now.items c.run_net.new.endpoints.items c.run_net.ensures.heard c.run_net.ensures.all
+returns-clause-linked g c = linked_of (λ e. e.recipient.pass) (IsAnswer g.G.Gate.lets) c.args.plan.now.faults (λ e. (e.node, e.senders.items)) c.args.endpoints.now.items c.run_net.new.endpoints.items c.run_net.ensures.heard c.run_net.ensures.all
