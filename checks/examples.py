@@ -19,7 +19,7 @@ sys.path.insert(0, f"{HERE}/tools")
 from tally import Tally
 
 PAGES = ["README.md", *sorted(os.path.relpath(it, TOP) for form in ("docs/*.md", "crates/*/README.md") for it in glob.glob(f"{TOP}/{form}"))]
-FAMILIES = "H N O S B V L TA1 TA104 AK304 AK403 AK501 AK502 AK901 AK905".split()
+FAMILIES = "H N O S B V L TA1 TA104 AK304 AK403 AK501 AK502 AK901 AK905 LINT".split()
 TALLY = Tally("examples")
 
 

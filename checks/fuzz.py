@@ -8,7 +8,7 @@ is told with its round, and its input is left in a folder that is named; `--seed
 
 Of a transmission: `answer` and `check` agree, interchange by interchange, group by group, set by set; where its sender
 may submit it, its reply, read back by `explain --of`, closes exactly its sets, each as `check` says; where its headers
-can be read, `show --plain` and `show --join` give its bytes back. Of a script: its report has no BAD; each delivery made again at its end leaves
+can be read, `show --plain` and `show --join` give its bytes back; `check --lint` finds what `check` does, besides its remarks. Of a script: its report has no BAD; each delivery made again at its end leaves
 the report as it is; `report` is what `script` prints for a line `report`. Of all: the status is 0 or 1, within 20
 seconds and 1 GB. The laws are in tools/fuzz_laws.py, the inputs in tools/fuzz_inputs.py.
 

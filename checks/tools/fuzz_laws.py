@@ -140,7 +140,10 @@ def try_transmission(path, folder):
         raise Broken("show --plain and show --join don't give the bytes back")
     try_csv(path)
     objects("van", ["show", "--json", path])
-    objects("van", ["check", "--json", path])
+    objects("van", ["show", "--names", "--json", path])
+    bare, linted = (objects("van", ["check", *lint, "--json", path]) for lint in ([], ["--lint"]))
+    if [{name: it[name] for name in it if name not in ("remarks", "remarks_made")} for it in linted] != bare:
+        raise Broken("check --lint finds something else than check")
     for words in (["show", path], ["explain", path], ["check", "--me", "ZZBETA", "PO850", path]):
         ran("van", words)
 

@@ -1,7 +1,7 @@
 //! `van check`: what is wrong with each interchange of a file.
 
 use crate::clashes::{self, Clash};
-use crate::{color, files, parties};
+use crate::{color, files, parties, tables};
 use anyhow::Result;
 use clap::ArgMatches;
 use command_table::{Kind, Row, Word};
@@ -11,15 +11,16 @@ use std::process::ExitCode;
 use x12_answering::{RunFault, read_pair};
 use x12_envelopes::{Party, read_header, split_transmission};
 use x12_inspect::{CSV_HEAD, CheckTerms, Form, Outcome, Style, run_check, run_check_as_sender};
+use x12_lint::Table;
 
 const ABOUT: &str =
     "Says what is wrong with each interchange of a file, as its receiver would find it.";
 
 const MORE: &str = "\
-Without --me the receiver of each interchange checks it; where no pair is named, he
-takes the sets that stand in it. Sets are judged by their structure, and an 850
-also by BEG, by CTT01 and by whether it has a PO1: no more is looked at. With
-several files the last line says how many are wrong.
+Without --me each interchange is checked as by its receiver. Without a pair he
+takes the sets in it. Sets are judged by their structure, and an 850 also by BEG,
+CTT01 and whether it has a PO1. --lint tells more. With several files the last
+line says how many are wrong.
 
 Example:
   van check samples/order.edi
@@ -36,7 +37,7 @@ Exit status:
   2  the command line is wrong, or has options that don't go together";
 
 /// The words of the subcommand.
-static WORDS: [Word; 9] = [
+static WORDS: [Word; 11] = [
     Word {
         kind: Kind::Value,
         name: "me",
@@ -47,7 +48,7 @@ static WORDS: [Word; 9] = [
         kind: Kind::Flag,
         name: "as-sender",
         value: "",
-        help: "Says instead what a station would refuse to submit: --me, or the first sender in the file",
+        help: "Checks as the sender: tells what the station --me, or the first sender in the file, would refuse to submit",
     },
     Word {
         kind: Kind::Flag,
@@ -59,27 +60,29 @@ static WORDS: [Word; 9] = [
         kind: Kind::Flag,
         name: "recursive",
         value: "",
-        help: "Goes into folders, but for names with a dot in front; -r for short",
+        help: "Goes into folders too, except names that begin with a dot (-r for short)",
     },
     Word {
         kind: Kind::Flag,
         name: "quiet",
         value: "",
-        help: "Says only what is wrong, with the file's name in front; -q for short",
+        help: "Says only what is wrong, with the file's name in front (-q for short)",
     },
+    tables::LINT,
+    tables::TABLE,
     files::JSON,
     Word {
         kind: Kind::Flag,
         name: "csv",
         value: "",
-        help: "Writes one line of CSV for each finding, behind a line with the names of the columns",
+        help: "Writes a line of CSV for each finding, below a line with the names of the columns",
     },
     color::COLOR,
     Word {
         kind: Kind::Many,
         name: "words",
         value: "PAIR|FILE",
-        help: "Five capitals or digits that name no file, as PO850, are GS01 and ST01 of what is taken; all else is a file, - standard input",
+        help: "A pair of GS01 and ST01 to take, as PO850, unless a file has that name; else a file to check, or - for standard input",
     },
 ];
 
@@ -214,7 +217,7 @@ fn begin(rt: &HostRuntime, found: &ArgMatches<'_>) -> Result<Form> {
 }
 
 /// What doesn't go together.
-fn clashes_in(found: &ArgMatches<'_>, words: &Words<'_>) -> [Clash; 4] {
+fn clashes_in(found: &ArgMatches<'_>, words: &Words<'_>) -> [Clash; 7] {
     let as_sender = found.get_flag("as-sender");
     let csv = found.get_flag("csv");
     [
@@ -238,6 +241,13 @@ fn clashes_in(found: &ArgMatches<'_>, words: &Words<'_>) -> [Clash; 4] {
             one: "--as-sender",
             other: "a pair",
         },
+        Clash {
+            both: as_sender && tables::is_asked(found),
+            one: "--as-sender",
+            other: "--lint",
+        },
+        color::clash(found, "json", "--json"),
+        color::clash(found, "csv", "--csv"),
     ]
 }
 
@@ -246,6 +256,7 @@ fn run_as(
     rt: &HostRuntime,
     found: &ArgMatches<'_>,
     me: Option<Party>,
+    table: Option<Table>,
     words: Words<'_>,
 ) -> Result<ExitCode> {
     let Words { pairs, files } = words;
@@ -253,6 +264,7 @@ fn run_as(
         me,
         lenient: found.get_flag("lenient"),
         pairs,
+        table,
     };
     let how = How {
         terms: &terms,
@@ -279,5 +291,11 @@ pub fn run(rt: &HostRuntime, found: &ArgMatches<'_>) -> Result<ExitCode> {
     if let Some(status) = clashes::refuse(rt, &clashes_in(found, &words))? {
         return Ok(status);
     }
-    run_as(rt, found, me, words)
+    if !tables::is_asked(found) {
+        return run_as(rt, found, me, None, words);
+    }
+    match tables::table(rt, found)? {
+        Some(table) => run_as(rt, found, me, Some(table), words),
+        None => Ok(ExitCode::from(2)),
+    }
 }

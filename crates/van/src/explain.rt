@@ -40,7 +40,7 @@ static WORDS: [Word; 6] = [
         kind: Kind::Value,
         name: "of",
         value: "SENT",
-        help: "The file that was sent: shows what is spoken of, which sets close, and which stay pending",
+        help: "The file that was sent: tells which of its sets each answer closes, and which stay pending",
     },
     Word {
         kind: Kind::Value,
@@ -170,7 +170,7 @@ fn explain_files(rt: &HostRuntime, found: &ArgMatches<'_>, hub: Option<Party>) -
 }
 
 /// What doesn't go together.
-fn clashes_in(found: &ArgMatches<'_>) -> [Clash; 3] {
+fn clashes_in(found: &ArgMatches<'_>) -> [Clash; 5] {
     let code = found.get_str("code").is_some();
     let of = found.get_str("of").is_some();
     let has_files = !found.get_strs("files").unwrap_or(&[]).is_empty();
@@ -190,6 +190,12 @@ fn clashes_in(found: &ArgMatches<'_>) -> [Clash; 3] {
             one: "--code",
             other: "--json",
         },
+        Clash {
+            both: code && color::is_always(found),
+            one: "--code",
+            other: "--color always",
+        },
+        color::clash(found, "json", "--json"),
     ]
 }
 

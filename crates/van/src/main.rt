@@ -12,6 +12,7 @@ mod folders;
 mod parties;
 mod records;
 mod show;
+mod tables;
 mod words;
 
 use crate::command::{Command, FILES, of_mailboxes};

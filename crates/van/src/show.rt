@@ -1,12 +1,12 @@
 //! `van show`: the segments of a file.
 
 use crate::clashes::{self, Clash};
-use crate::{color, files};
+use crate::{color, files, tables};
 use anyhow::Result;
 use clap::ArgMatches;
 use command_table::{Kind, Row, Word};
 use std::process::ExitCode;
-use x12_inspect::{Outcome, Style, run_show};
+use x12_inspect::{Outcome, ShowTerms, Style, run_show};
 use x12_segments::{Layout, run_layout};
 
 const ABOUT: &str = "Shows the segments of a file, each with its place.";
@@ -26,18 +26,24 @@ Exit status:
   2  the command line is wrong";
 
 /// The words of the subcommand.
-static WORDS: [Word; 5] = [
+static WORDS: [Word; 6] = [
     Word {
         kind: Kind::Flag,
         name: "plain",
         value: "",
-        help: "Writes the segments alone, one a line",
+        help: "Writes only the segments, one a line",
     },
     Word {
         kind: Kind::Flag,
         name: "join",
         value: "",
-        help: "Takes such lines back into one line",
+        help: "Joins such lines again",
+    },
+    Word {
+        kind: Kind::Flag,
+        name: "names",
+        value: "",
+        help: "Shows below each segment its elements, each with its number and name, if these are known",
     },
     files::JSON,
     color::COLOR,
@@ -66,7 +72,8 @@ fn layout(found: &ArgMatches<'_>) -> Option<Layout> {
 }
 
 /// Shows one input.
-fn show(rt: &HostRuntime, style: &Style<'_>, layout: Option<Layout>) -> Result<Outcome> {
+fn show(rt: &HostRuntime, terms: &ShowTerms<'_>, layout: Option<Layout>) -> Result<Outcome> {
+    let style = terms.style;
     let Some(input) = files::read(rt, style)? else {
         return Ok(Outcome::SomethingWrong);
     };
@@ -75,7 +82,7 @@ fn show(rt: &HostRuntime, style: &Style<'_>, layout: Option<Layout>) -> Result<O
             Ok(right) => Ok(Outcome::of(right)),
             Err(fault) => Err(fault),
         },
-        None => run_show(rt.alloc(), style, &input, &mut rt.stdout()),
+        None => run_show(rt.alloc(), terms, &input, &mut rt.stdout()),
     };
     files::told(rt, style, shown)
 }
@@ -83,7 +90,7 @@ fn show(rt: &HostRuntime, style: &Style<'_>, layout: Option<Layout>) -> Result<O
 /// Shows each input.
 fn show_all(
     rt: &HostRuntime,
-    style: &Style<'_>,
+    terms: &ShowTerms<'_>,
     layout: Option<Layout>,
     words: &[&str],
 ) -> Result<Outcome> {
@@ -92,15 +99,23 @@ fn show_all(
     for file in &named.files {
         let file = file.as_str();
         if layout.is_none() {
-            files::head(rt, style.form, &named.files, file)?;
+            files::head(rt, terms.style.form, &named.files, file)?;
         }
-        outcome = files::both(outcome, show(rt, &Style { file, ..*style }, layout)?);
+        let style = Style {
+            file,
+            ..*terms.style
+        };
+        let one = ShowTerms {
+            style: &style,
+            table: terms.table,
+        };
+        outcome = files::both(outcome, show(rt, &one, layout)?);
     }
     Ok(outcome)
 }
 
 /// What doesn't go together.
-fn clashes_in(found: &ArgMatches<'_>) -> [Clash; 3] {
+fn clashes_in(found: &ArgMatches<'_>) -> [Clash; 8] {
     let (plain, join) = (found.get_flag("plain"), found.get_flag("join"));
     let json = found.get_flag("json");
     [
@@ -119,6 +134,19 @@ fn clashes_in(found: &ArgMatches<'_>) -> [Clash; 3] {
             one: "--join",
             other: "--json",
         },
+        Clash {
+            both: plain && found.get_flag("names"),
+            one: "--plain",
+            other: "--names",
+        },
+        Clash {
+            both: join && found.get_flag("names"),
+            one: "--join",
+            other: "--names",
+        },
+        color::clash(found, "json", "--json"),
+        color::clash(found, "plain", "--plain"),
+        color::clash(found, "join", "--join"),
     ]
 }
 
@@ -134,5 +162,14 @@ pub fn run(rt: &HostRuntime, found: &ArgMatches<'_>) -> Result<ExitCode> {
         file: "-",
         is_quiet: false,
     };
-    Ok(files::status(show_all(rt, &style, layout(found), words)?))
+    let names = if found.get_flag("names") {
+        Some(tables::builtin(rt)?)
+    } else {
+        None
+    };
+    let terms = ShowTerms {
+        style: &style,
+        table: names.as_ref(),
+    };
+    Ok(files::status(show_all(rt, &terms, layout(found), words)?))
 }

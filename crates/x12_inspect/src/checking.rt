@@ -10,7 +10,8 @@ use crate::accepting::accepts_all;
 use crate::coded::numbered;
 use crate::fault::cause_of;
 use crate::inspecting::{Inspector, Outcome, inspect_all};
-use crate::report::{Found, Judged, Taken, checked, tell, unreadable};
+use crate::remarking::{Remarks, remarks_on};
+use crate::report::{Found, Judged, Report, Taken, checked, tell, unreadable};
 use crate::slice::{Interchange, Slice};
 use crate::standing::{Pairs, standing_pairs};
 use crate::style::Style;
@@ -21,6 +22,7 @@ use std::slice;
 use x12_answering::RunFault;
 use x12_envelopes::{Header, Party, read_header};
 use x12_judge::{Agreement, Judgement, Verdict, judge};
+use x12_lint::Table;
 
 /// What checking is told.
 #[derive(Drop)]
@@ -32,6 +34,8 @@ pub struct CheckTerms {
     /// GS01 and ST01 of what is taken from every partner, as `PO` and `850`; where none is named, of the
     /// sets that stand in the interchange.
     pub pairs: Vec<([u8; 2], [u8; 3])>,
+    /// The table by which sets are remarked on; `None` where that isn't asked.
+    pub table: Option<Table>,
 }
 
 impl CheckTerms {
@@ -103,6 +107,22 @@ impl CheckTerms {
             Verdict::Judged(groups) => Ok(Found::Judged(Judged { taken, groups })),
         }
     }
+
+    /// What is remarked of the sets of an interchange that was judged, where that is asked.
+    fn remarks(
+        &self,
+        alloc: Global,
+        style: &Style<'_>,
+        at: &Interchange<'_, '_>,
+        judgement: &Judgement<'_>,
+    ) -> Result<Option<Remarks>, AllocError> {
+        match (&self.table, &judgement.verdict) {
+            (Some(table), Verdict::Judged(groups)) => {
+                Ok(Some(remarks_on(alloc, table, style, at, groups)?))
+            }
+            _ => Ok(None),
+        }
+    }
 }
 
 /// The receiver of interchanges, who checks each.
@@ -141,7 +161,12 @@ impl Inspector for Receiver<'_> {
         let taken = self.terms.taken(&header, &agreement);
         let found = self.terms.found(alloc, &at, taken, &judgement)?;
         let accepted = accepts_all(&judgement);
-        tell(self.style, out, &checked(&at, accepted, found));
+        let remarks = self.terms.remarks(alloc, self.style, &at, &judgement)?;
+        let report = Report {
+            remarks,
+            ..checked(&at, accepted, found)
+        };
+        tell(self.style, out, &report);
         Ok(accepted)
     }
 

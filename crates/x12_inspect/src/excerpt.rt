@@ -61,7 +61,7 @@ fn segment_at(terminator: u8, set: &[u8], position: u32) -> Option<&[u8]> {
 
 /// At which offset of a segment the element at a place begins, and how many bytes it has; none, at the
 /// end, where the segment hasn't so many elements. The identifier has the place 0.
-fn element_in(separator: u8, segment: &[u8], place: u8) -> (usize, usize) {
+fn element_in(separator: u8, segment: &[u8], place: usize) -> (usize, usize) {
     let mut rest = segment;
     for _ in 0..place {
         match cut_at(separator, rest) {
@@ -99,6 +99,19 @@ impl Text {
         say!(self; Ink::Plain, "\n");
     }
 
+    /// Adds a segment with carets below the element at a place, or below the identifier at 0; nothing
+    /// where words have no carets, or of no segment.
+    pub(crate) fn excerpt_of(&mut self, delims: &Delims, segment: &[u8], place: usize) {
+        if self.look() == Look::Plain || segment.is_empty() {
+            return;
+        }
+        let (from, count) = element_in(delims.element, segment, place);
+        let first = from.saturating_sub(AROUND);
+        let shown = part(segment, first, 2 * AROUND);
+        say!(self; "      ", shown, "\n");
+        self.carets(6, shown, from.saturating_sub(first), count);
+    }
+
     /// Adds the segment that a note of a set is of, with carets below the element, or below the
     /// identifier where the note is of the whole segment; nothing where words have no carets.
     pub(crate) fn excerpt(&mut self, delims: &Delims, set: &[u8], note: &Noted<'_, '_>) {
@@ -106,15 +119,11 @@ impl Text {
             return;
         }
         let place = match note.note {
-            SetNote::Element { place, .. } => *place,
+            SetNote::Element { place, .. } => usize::from(*place),
             SetNote::Segment { .. } => 0,
         };
         if let Some(segment) = segment_at(delims.terminator, set, note.position) {
-            let (from, count) = element_in(delims.element, segment, place);
-            let first = from.saturating_sub(AROUND);
-            let shown = part(segment, first, 2 * AROUND);
-            say!(self; "      ", shown, "\n");
-            self.carets(6, shown, from.saturating_sub(first), count);
+            self.excerpt_of(delims, segment, place);
         }
     }
 }

@@ -50,6 +50,7 @@ fn unread<'r, 'a>(at: &Interchange<'r, 'a>, fault: OutlineFault) -> Report<'r, '
         bytes: at.bytes,
         accepted: None,
         found: Found::Unreadable(outline_fault(at, fault)),
+        remarks: None,
     }
 }
 

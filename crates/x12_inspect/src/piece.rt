@@ -174,6 +174,8 @@ pub(crate) enum Ink {
     Right,
     /// What is wrong.
     Wrong,
+    /// What is remarked.
+    Remark,
 }
 
 impl Piece for Ink {
@@ -184,6 +186,7 @@ impl Piece for Ink {
                 Ink::Name => b"\x1b[1m",
                 Ink::Right => b"\x1b[32m",
                 Ink::Wrong => b"\x1b[1;31m",
+                Ink::Remark => b"\x1b[33m",
             });
         }
     }

@@ -3,6 +3,7 @@
 use crate::coded::Coded;
 use crate::fault::{Cause, Fault, header_fault};
 use crate::piece::say;
+use crate::remarking::Remarks;
 use crate::report_csv::{self, put_rows};
 use crate::report_json::{self, put_report};
 use crate::report_words::say_report;
@@ -29,6 +30,8 @@ pub(crate) struct Report<'r, 'a> {
     pub accepted: Option<bool>,
     /// What is found.
     pub found: Found<'r, 'a>,
+    /// What is remarked of its sets; `None` where that isn't asked.
+    pub remarks: Option<Remarks>,
 }
 
 /// Who checks an interchange, and what is taken.
@@ -115,6 +118,7 @@ pub(crate) fn checked<'r, 'a>(
         bytes: at.bytes,
         accepted: Some(accepted),
         found,
+        remarks: None,
     }
 }
 
@@ -126,6 +130,7 @@ pub(crate) fn headless<'r, 'a>(slice: &Slice<'a>, found: Found<'r, 'a>) -> Repor
         bytes: slice.bytes,
         accepted: Some(false),
         found,
+        remarks: None,
     }
 }
 
@@ -134,9 +139,17 @@ pub(crate) fn unreadable<'r, 'a>(slice: &Slice<'a>, fault: HeaderFault) -> Repor
     headless(slice, Found::Unreadable(header_fault(slice.bytes, fault)))
 }
 
-/// Whether an interchange is accepted or may be submitted, and no error was noted in it.
+/// Whether something is remarked.
+fn is_remarked(report: &Report<'_, '_>) -> bool {
+    match &report.remarks {
+        Some(remarks) => remarks.count > 0,
+        None => false,
+    }
+}
+
+/// Whether an interchange is accepted or may be submitted, and nothing was noted or remarked in it.
 fn is_right(report: &Report<'_, '_>) -> bool {
-    if report.accepted != Some(true) {
+    if report.accepted != Some(true) || is_remarked(report) {
         return false;
     }
     match &report.found {

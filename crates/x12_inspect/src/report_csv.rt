@@ -7,6 +7,8 @@ use crate::printing::{JudgedSet, Noted, Printer, print_groups, refusal};
 use crate::report::{Found, Report};
 use crate::style::Form;
 use crate::text::Text;
+use crate::trailer::{say_of_set, say_refusal};
+use x12_envelopes::Delims;
 use x12_judge::{GroupVerdict, SetNote, SetVerdict};
 
 /// The names of the columns, which stand on the first line.
@@ -60,12 +62,35 @@ fn put_words(out: &mut Text, set: &SetVerdict<'_>) {
     out.cell(words.bytes());
 }
 
-/// Adds the last cells of a set that is rejected: its codes with their family and words.
-fn put_rejected(out: &mut Text, set: &SetVerdict<'_>) {
+/// Adds the last cell: what was found.
+fn put_found(out: &mut Text, found: &Text) {
+    out.cell(found.bytes());
+    out.say("\r\n");
+}
+
+/// Adds the last cells of a set that is rejected: its codes with their family and words, and what
+/// those were found in.
+fn put_rejected(out: &mut Text, report: &Report<'_, '_>, set: &SetVerdict<'_>) {
     out.say(",AK502,");
     put_codes(out, set);
     put_words(out, set);
-    out.say(",\r\n");
+    let mut found = out.beside();
+    if let Some(header) = report.header {
+        say_found(&mut found, &header.delims, set);
+    }
+    put_found(out, &found);
+}
+
+/// Adds what the codes of a set were found in, one behind another.
+fn say_found(found: &mut Text, delims: &Delims, set: &SetVerdict<'_>) {
+    for code in set.codes.as_slice() {
+        let mut one = found.beside();
+        say_of_set(&mut one, *code, delims, set.bytes);
+        if !one.is_empty() && !found.is_empty() {
+            found.say("; ");
+        }
+        found.put_text(&one);
+    }
 }
 
 /// Adds where a fault is, as what stands between quotes.
@@ -113,7 +138,12 @@ impl Printer for Rows<'_, '_, '_> {
             put_front(out, self.file, self.report);
             put_group(out, group);
             out.say(",,,,,,,,");
-            put_code(out, "AK905", coded);
+            cells!(out; "AK905", coded.code, coded.words);
+            let mut found = out.beside();
+            if let Some(header) = self.report.header {
+                say_refusal(&mut found, &header.delims, self.report.bytes, group);
+            }
+            put_found(out, &found);
         }
     }
 
@@ -127,7 +157,7 @@ impl Printer for Rows<'_, '_, '_> {
         if at.set.is_accepted() {
             return put_code(out, "AK501", code_of("AK501", b"E"));
         }
-        put_rejected(out, at.set);
+        put_rejected(out, self.report, at.set);
     }
 
     fn note(&self, out: &mut Text, at: &JudgedSet<'_, '_>, note: &Noted<'_, '_>) {
@@ -174,7 +204,12 @@ pub(crate) fn put_unread(out: &mut Text, file: &str, why: &[u8]) {
 /// Adds a line for each finding of an interchange of a file.
 pub(crate) fn put_rows<'t>(out: &mut Text, file: &'t str, report: &'t Report<'_, '_>) {
     match &report.found {
-        Found::Judged(judged) => put_groups(out, file, report, judged.groups),
+        Found::Judged(judged) => {
+            put_groups(out, file, report, judged.groups);
+            if let Some(remarks) = &report.remarks {
+                out.put_text(&remarks.text);
+            }
+        }
         Found::Sendable(_) => {}
         Found::Refused(coded, cause) => {
             put_front(out, file, report);

@@ -151,6 +151,16 @@ fn put_pairs(out: &mut Text, pairs: &[([u8; 2], [u8; 3])]) {
     out.say("]");
 }
 
+/// Adds the remarks, where they are asked for.
+fn put_remarks(out: &mut Text, report: &Report<'_, '_>) {
+    if let Some(remarks) = &report.remarks {
+        out.member("remarks_made", remarks.count);
+        out.begin_list("remarks");
+        out.put_text(&remarks.text);
+        out.say("]");
+    }
+}
+
 /// Adds who checked and what is taken, and the groups that were judged.
 fn put_judged(out: &mut Text, report: &Report<'_, '_>, delims: &Delims, judged: &Judged<'_, '_>) {
     put_counts(out, judged.groups);
@@ -163,6 +173,7 @@ fn put_judged(out: &mut Text, report: &Report<'_, '_>, delims: &Delims, judged: 
     };
     print_groups(&tree, out, judged.groups);
     out.say("]");
+    put_remarks(out, report);
 }
 
 /// Adds why an interchange is refused as a whole, and what it was found to hold, if there is more to

@@ -165,7 +165,7 @@ fn say_note(out: &mut Text, note: &Noted<'_, '_>) {
 }
 
 /// Adds what something was found in, between brackets, if there is more to say.
-fn say_within(out: &mut Text, found: &Text) {
+pub(crate) fn say_within(out: &mut Text, found: &Text) {
     if !found.is_empty() {
         say!(out; " (", found, ")");
     }
@@ -281,6 +281,9 @@ fn say_judged(out: &mut Text, report: &Report<'_, '_>, delims: &Delims, judged: 
     say_counts(out, judged.groups, report.accepted == Some(true));
     say_taken(out, &judged.taken);
     say_groups(out, delims, report.bytes, judged.groups);
+    if let Some(remarks) = &report.remarks {
+        out.put_text(&remarks.text);
+    }
 }
 
 /// Adds what is found of an interchange. That it can't be read stands behind its name, or, where that

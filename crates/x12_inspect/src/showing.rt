@@ -3,6 +3,7 @@
 ghost use Rattle.std.specs.Prelude.{IfOk};
 ghost use Rattle.x12_inspect.specs.Showing.{EndsAsShown};
 
+use crate::elements::{put_elements, say_elements};
 use crate::inspecting::{Inspector, Outcome, inspect_all};
 use crate::piece::{Filled, Ink, Number, members, say};
 use crate::report::{tell, unreadable};
@@ -12,7 +13,8 @@ use crate::text::Text;
 use std::alloc::{AllocError, Global};
 use std::io::Write;
 use x12_answering::RunFault;
-use x12_envelopes::read_header;
+use x12_envelopes::{Delims, Segment, read_header};
+use x12_lint::Table;
 use x12_segments::{Compared, Placed, Walk, line_ends};
 
 /// Adds what a trailer says beside what was counted, where they differ.
@@ -64,7 +66,13 @@ fn put_compared(out: &mut Text, compared: &Compared<'_>) {
 }
 
 /// Adds a segment as JSON.
-fn put_placed(out: &mut Text, offset: usize, placed: &Placed<'_>) {
+fn put_placed(
+    out: &mut Text,
+    offset: usize,
+    placed: &Placed<'_>,
+    table: Option<&Table>,
+    read: &Segment<'_>,
+) {
     out.begin_item();
     members!(out; "byte": offset.saturating_add(placed.at), "depth": placed.depth);
     out.member_if("segment", placed.position);
@@ -72,34 +80,74 @@ fn put_placed(out: &mut Text, offset: usize, placed: &Placed<'_>) {
     if let Some(compared) = &placed.compared {
         put_compared(out, compared);
     }
+    if let Some(table) = table {
+        put_elements(out, table, read);
+    }
     out.say("}");
 }
 
-/// Adds each segment of an interchange.
-fn tell_segments(form: Form, out: &mut Text, offset: usize, mut walk: Walk<'_>) {
-    while let Some(placed) = walk.step() {
-        match form {
-            Form::Text => say_placed(out, offset, &placed),
-            Form::Json => put_placed(out, offset, &placed),
-            Form::Csv => {}
+/// How an input is shown.
+#[derive(Clone, Copy)]
+pub struct ShowTerms<'t> {
+    /// In which form.
+    pub style: &'t Style<'t>,
+    /// The table by which elements are named; `None` where they aren't told.
+    pub table: Option<&'t Table>,
+}
+
+/// Adds a segment, and its elements where they are named.
+fn tell_placed(
+    terms: &ShowTerms<'_>,
+    out: &mut Text,
+    offset: usize,
+    delims: &Delims,
+    placed: &Placed<'_>,
+) {
+    let read = Segment {
+        bytes: placed.bytes,
+        delims: *delims,
+    };
+    match terms.style.form {
+        Form::Text => {
+            say_placed(out, offset, placed);
+            if let Some(table) = terms.table {
+                say_elements(out, table, &read);
+            }
         }
+        Form::Json => put_placed(out, offset, placed, terms.table, &read),
+        Form::Csv => {}
+    }
+}
+
+/// Adds each segment of an interchange.
+fn tell_segments(
+    terms: &ShowTerms<'_>,
+    out: &mut Text,
+    offset: usize,
+    delims: &Delims,
+    mut walk: Walk<'_>,
+) {
+    while let Some(placed) = walk.step() {
+        tell_placed(terms, out, offset, delims, &placed);
     }
 }
 
 /// Adds an interchange whose header can be read.
-fn tell_shown(style: &Style<'_>, out: &mut Text, offset: usize, at: &Interchange<'_, '_>) {
-    let walk = Walk::new(at.header.delims, at.bytes);
+fn tell_shown(terms: &ShowTerms<'_>, out: &mut Text, offset: usize, at: &Interchange<'_, '_>) {
+    let delims = at.header.delims;
+    let walk = Walk::new(delims, at.bytes);
+    let style = terms.style;
     match style.form {
         Form::Text => {
             out.interchange(at.place, Some(at.header));
             out.say("\n");
-            tell_segments(style.form, out, offset, walk);
+            tell_segments(terms, out, offset, &delims, walk);
         }
         Form::Json => {
             out.begin_interchange(style.file, at.place);
             out.header_members(at.header);
             out.begin_list("segments");
-            tell_segments(style.form, out, offset, walk);
+            tell_segments(terms, out, offset, &delims, walk);
             out.say("]}\n");
         }
         Form::Csv => {}
@@ -109,7 +157,7 @@ fn tell_shown(style: &Style<'_>, out: &mut Text, offset: usize, at: &Interchange
 /// What is asked of an input: what stands in it, and where.
 #[derive(Drop)]
 struct Contents<'t> {
-    style: &'t Style<'t>,
+    terms: &'t ShowTerms<'t>,
     input: &'t [u8],
     /// How much of the input was shown.
     offset: usize,
@@ -141,11 +189,11 @@ impl Inspector for Contents<'_> {
         let offset = self.next(slice.bytes.len());
         match read_header(slice.bytes) {
             Ok(header) => {
-                tell_shown(self.style, out, offset, &slice.with(&header));
+                tell_shown(self.terms, out, offset, &slice.with(&header));
                 Ok(true)
             }
             Err(fault) => {
-                tell(self.style, out, &unreadable(slice, fault));
+                tell(self.terms.style, out, &unreadable(slice, fault));
                 Ok(false)
             }
         }
@@ -165,16 +213,16 @@ impl Inspector for Contents<'_> {
 /// written.
 pub fn run_show<W: Write>(
     alloc: Global,
-    style: &Style<'_>,
+    terms: &ShowTerms<'_>,
     input: &[u8],
     out: &mut W,
 ) -> Result<Outcome, RunFault>
     ensures { IfOk result (λ outcome. EndsAsShown input.now outcome) }
 {
     let mut contents = Contents {
-        style,
+        terms,
         input,
         offset: 0,
     };
-    inspect_all(alloc, &mut contents, style.look, input, out)
+    inspect_all(alloc, &mut contents, terms.style.look, input, out)
 }

@@ -157,7 +157,7 @@ fn is_moment_text(text: &[u8]) -> bool
 
 impl ElementKind {
     /// Whether a text is of this kind.
-    fn holds(self, text: &[u8]) -> bool
+    pub(crate) fn holds(self, text: &[u8]) -> bool
         ensures { result ≡ is_of_kind self text.now }
     {
         match self {
@@ -166,6 +166,17 @@ impl ElementKind {
             ElementKind::Decimal => is_decimal_text(unsigned(text)),
             ElementKind::Date => is_day_text(text),
             ElementKind::Time => is_moment_text(text),
+        }
+    }
+
+    /// What a text of this kind is, in words.
+    pub fn words(self) -> &'static str {
+        match self {
+            ElementKind::Text => "a text",
+            ElementKind::Integer => "a number without a point",
+            ElementKind::Decimal => "a number",
+            ElementKind::Date => "a day, CCYYMMDD",
+            ElementKind::Time => "a time, HHMM",
         }
     }
 

@@ -1,265 +1,342 @@
 //! Going over a transaction set: which rows of the table it doesn't meet.
 
-use crate::element::flaw_of;
-use crate::remark::{Remark, What};
-use crate::table::{Count, SegmentRules, SetRows, Table, find_row, find_segment, find_set};
+ghost use Rattle.std.specs.Prelude.{◌≡◌, [], ◌∷◌, ◌++◌, map, filter_map, flat_map, option_map};
+ghost use Rattle.std.specs.Prelude.{IfOk, OnOk};
+ghost use Rattle.std.specs.List.{cons_option, enumerate_from};
+ghost use Rattle.x12_envelopes.specs.Writing.{texts};
+ghost use Rattle.x12_lint.specs.Linting.{remark_view, is_envelope, is_another_number};
+ghost use Rattle.x12_lint.specs.Linting.{is_this_number, remark_of_counting, placed_at};
+ghost use Rattle.x12_lint.specs.Linting.{AreElements, wrong_element};
+ghost use Rattle.x12_envelopes.specs.Byte.{number_of_digits};
+ghost use Rattle.x12_lint.specs.Linting.{remark_of_element, remark_of_missing, remark_of_count};
+ghost use Rattle.x12_lint.specs.Linting.{remarks_if_unknown, remarks_of_segment, remarks_by_rows};
+ghost use Rattle.x12_lint.specs.Linting.{remarks_of_set, SetRemark};
+
+use crate::element::{ElementKind, Flaw, Rule, flaw_of};
+use crate::naming::{Place, count_named, first_named, read_of, some_has_name};
+use crate::part::{element_at, elements_of, segments_of};
+use crate::remark::Remark;
+use crate::table::{Counting, SegmentRow, SetRows, Table, has_row, rows_of_set, rules_of_segment};
 use std::alloc::{AllocError, Global};
-use x12_envelopes::{Delims, Segment, cut_at, cut_segment, number_of};
+use x12_envelopes::{Delims, Segment, number_of};
 
-/// A segment of a set, where it stands.
-#[derive(Clone, Copy)]
-struct Place<'a> {
-    bytes: &'a [u8],
-    /// Its position in the set: ST is 1.
-    position: u32,
-    /// Its offset from the S of ST.
-    at: usize,
-}
-
-impl Place<'_> {
-    /// A remark on the whole segment: its identifier is shown.
-    fn remark(&self, what: What) -> Remark {
-        let count = self.bytes.len().min(3);
-        let (position, at) = (self.position, self.at);
-        Remark {
-            what,
-            position,
-            at,
-            count,
-        }
-    }
-
-    /// A remark on a part of the segment, which begins so many bytes behind its first.
-    fn remark_within(&self, what: What, from: usize, count: usize) -> Remark {
-        Remark {
-            what,
-            position: self.position,
-            at: self.at.saturating_add(from),
-            count,
-        }
-    }
-}
-
-/// The element at a place of a segment, from 1, and its offset there; an empty one at the end, where the
-/// segment has none.
-fn element_at<'a>(separator: u8, segment: &'a [u8], place: usize) -> (usize, &'a [u8]) {
-    let mut rest = segment;
-    for _ in 0..place {
-        match cut_at(separator, rest) {
-            Some((_, behind)) => rest = behind,
-            None => return (segment.len(), &[]),
-        }
-    }
-    let from = segment.len().saturating_sub(rest.len());
-    match cut_at(separator, rest) {
-        Some((element, _)) => (from, element),
-        None => (from, rest),
-    }
-}
-
-/// Adds a remark on each element of a segment that isn't as its rule says.
-fn lint_elements(
-    index: usize,
-    rows: &SegmentRules,
-    separator: u8,
-    place: &Place<'_>,
-    remarks: &mut Vec<Remark>,
-) -> Result<(), AllocError> {
-    for (number, rule) in rows.rules.iter().enumerate() {
-        let (from, element) = element_at(separator, place.bytes, rule.place);
-        if let Some(flaw) = flaw_of(rule, element) {
-            let what = What::Element(index, number, flaw);
-            remarks.push(place.remark_within(what, from, element.len()))?;
-        }
+/// Adds a remark, where there is one.
+fn add<'r>(remarks: &mut Vec<Remark<'r>>, remark: Option<Remark<'r>>) -> Result<(), AllocError>
+    ensures { OnOk result (map remark_view remarks.new.items ≡ map remark_view remarks.old.items
+        ++ cons_option (option_map remark_view remark.entry) []) }
+{
+    if let Some(remark) = remark {
+        remarks.push(remark)?;
     }
     Ok(())
 }
 
-/// A set that is gone over.
-#[derive(Drop)]
-struct Going<'s> {
-    table: &'s Table,
-    /// The set's rows, and their index.
-    rows: &'s SetRows,
-    index: usize,
-    delims: Delims,
-    /// Which of the set's segments were seen.
-    seen: Vec<bool>,
-}
-
-impl Going<'_> {
-    /// Adds what is remarked of a segment.
-    fn lint(&mut self, place: &Place<'_>, remarks: &mut Vec<Remark>) -> Result<(), AllocError> {
-        let read = Segment {
-            bytes: place.bytes,
-            delims: self.delims,
-        };
-        let identifier = read.identifier();
-        match find_row(&self.rows.segments, identifier) {
-            Some(row) => {
-                if let Some(seen) = self.seen.get_mut(row) {
-                    *seen = true;
-                }
-            }
-            None => remarks.push(place.remark(What::UnknownSegment))?,
-        }
-        if let Some(index) = find_segment(&self.table.segments, identifier)
-            && let Some(rows) = self.table.segments.get(index)
-        {
-            lint_elements(index, rows, self.delims.element, place, remarks)?;
-        }
-        Ok(())
-    }
-
-    /// Adds that the set lacks segments, at its last one.
-    fn lint_missing(&self, last: &Place<'_>, remarks: &mut Vec<Remark>) -> Result<(), AllocError> {
-        for (row, segment) in self.rows.segments.iter().enumerate() {
-            let is_seen = self.seen.get(row) == Some(&true);
-            if segment.is_required && !is_seen {
-                remarks.push(last.remark(What::MissingSegment(self.index, row)))?;
-            }
-        }
-        Ok(())
-    }
-}
-
-/// How many segments of a set have an identifier, and where the last one of another stands.
-fn count_segments<'a>(delims: &Delims, set: &'a [u8], count: &Count) -> (u32, Option<Place<'a>>) {
-    let mut counted = 0u32;
-    let mut counting = None;
-    let mut rest = set;
-    let mut position = 0u32;
-    for _ in 0..set.len() {
-        let Some((bytes, behind)) = cut_segment(delims, rest) else {
-            return (counted, counting);
-        };
-        position = position.saturating_add(1);
-        let delims = *delims;
-        let identifier = Segment { bytes, delims }.identifier();
-        if identifier == count.counted.as_slice() {
-            counted = counted.saturating_add(1);
-        }
-        if identifier == count.segment.as_slice() {
-            let at = offset_of(set, bytes, behind);
-            counting = Some(Place {
-                bytes,
-                position,
-                at,
-            });
-        }
-        rest = behind;
-    }
-    (counted, counting)
-}
-
-/// The offset in a set of a segment, behind whose terminator these bytes stand.
-fn offset_of(set: &[u8], segment: &[u8], behind: &[u8]) -> usize {
-    set.len()
-        .saturating_sub(behind.len())
-        .saturating_sub(1)
-        .saturating_sub(segment.len())
-}
-
-/// Adds that a count isn't that of the segments that it counts.
-fn lint_count(
-    what: (usize, usize),
-    delims: &Delims,
-    set: &[u8],
-    count: &Count,
-    remarks: &mut Vec<Remark>,
-) -> Result<(), AllocError> {
-    let (counted, counting) = count_segments(delims, set, count);
-    let Some(place) = counting else {
+/// Adds what is wrong with an element, where something is.
+fn add_flaw<'r>(
+    position: usize,
+    segment: &'r [u8],
+    rule: &'r Rule,
+    flaw: Option<Flaw>,
+    remarks: &mut Vec<Remark<'r>>,
+) -> Result<(), AllocError>
+    ensures { let wrong = option_map (wrong_element position segment.now rule.now) flaw in
+        OnOk result (map remark_view remarks.new.items
+        ≡ map remark_view remarks.old.items ++ cons_option wrong []) }
+{
+    let Some(flaw) = flaw else {
         return Ok(());
     };
-    let (from, said) = element_at(delims.element, place.bytes, 1);
-    if !said.is_empty() && number_of(said) != Some(counted) {
-        let what = What::Count(what.0, what.1, counted);
-        remarks.push(place.remark_within(what, from, said.len()))?;
+    Ok(remarks.push(Remark::Element {
+        position,
+        segment,
+        rule,
+        flaw,
+    })?)
+}
+
+/// Adds what is remarked of an element of a segment, which was cut into its elements.
+#[tactic(auto, unfolding(crate::specs::Linting::remark_of_element))]
+fn lint_element<'r>(
+    position: usize,
+    read: &Segment<'r>,
+    elements: &[&'r [u8]],
+    rule: &'r Rule,
+    remarks: &mut Vec<Remark<'r>>,
+) -> Result<(), AllocError>
+    requires { AreElements read.now.delims read.now.bytes.now elements.now }
+    ensures { let wrong = remark_of_element read.now.delims position read.now.bytes.now rule.now in
+        OnOk result (map remark_view remarks.new.items
+        ≡ map remark_view remarks.old.items ++ cons_option wrong []) }
+{
+    let flaw = flaw_of(
+        rule,
+        element_at(&read.delims, read.bytes, elements, rule.place),
+    );
+    add_flaw(position, read.bytes, rule, flaw, remarks)
+}
+
+/// Adds what is remarked of the elements of a segment.
+fn lint_elements<'r>(
+    position: usize,
+    read: &Segment<'r>,
+    elements: &[&'r [u8]],
+    rules: &'r [Rule],
+    remarks: &mut Vec<Remark<'r>>,
+) -> Result<(), AllocError>
+    requires { AreElements read.now.delims read.now.bytes.now elements.now }
+    ensures { let flaws = remark_of_element read.now.delims position read.now.bytes.now in
+        OnOk result (map remark_view remarks.new.items
+        ≡ map remark_view remarks.old.items ++ filter_map flaws rules.now) }
+{
+    for rule in rules {
+        lint_element(position, read, elements, rule, remarks)?;
     }
     Ok(())
 }
 
-/// Adds what is remarked of each segment of a set between ST and SE, and gives the last segment.
-fn lint_segments<'a>(
-    going: &mut Going<'_>,
-    set: &'a [u8],
-    remarks: &mut Vec<Remark>,
-) -> Result<Place<'a>, AllocError> {
-    let mut last = Place {
-        bytes: &[],
-        position: 1,
-        at: 0,
-    };
-    let delims = going.delims;
-    let mut rest = set;
-    let mut position = 0u32;
-    for _ in 0..set.len() {
-        let Some((bytes, behind)) = cut_segment(&delims, rest) else {
-            return Ok(last);
-        };
-        position = position.saturating_add(1);
-        last = Place {
-            bytes,
-            position,
-            at: offset_of(set, bytes, behind),
-        };
-        let identifier = Segment { bytes, delims }.identifier();
-        if identifier != b"ST".as_slice() && identifier != b"SE".as_slice() {
-            going.lint(&last, remarks)?;
-        }
-        rest = behind;
+/// Adds that a segment isn't in the rows of its set.
+fn lint_name<'r>(
+    rows: &SetRows,
+    name: &[u8],
+    position: usize,
+    segment: &'r [u8],
+    remarks: &mut Vec<Remark<'r>>,
+) -> Result<(), AllocError>
+    ensures { OnOk result (map remark_view remarks.new.items ≡ map remark_view remarks.old.items
+        ++ remarks_if_unknown rows.now name.now position segment.now) }
+{
+    if has_row(&rows.segments, name) {
+        return Ok(());
     }
-    Ok(last)
+    add(remarks, Some(Remark::UnknownSegment { position, segment }))
 }
 
-/// Adds what is remarked of a set with rows.
-fn lint_rows(
-    going: &mut Going<'_>,
-    set: &[u8],
-    remarks: &mut Vec<Remark>,
-) -> Result<(), AllocError> {
-    for _ in &going.rows.segments {
-        going.seen.push(false)?;
-    }
-    let last = lint_segments(going, set, remarks)?;
-    going.lint_missing(&last, remarks)?;
-    let (index, delims) = (going.index, going.delims);
-    for (number, count) in going.rows.counts.iter().enumerate() {
-        lint_count((index, number), &delims, set, count, remarks)?;
-    }
-    Ok(())
+/// Whether an identifier is that of a set's header or trailer.
+fn is_of_envelope(name: &[u8]) -> bool
+    ensures { result ≡ is_envelope name.now }
+{
+    name == b"ST".as_slice() || name == b"SE".as_slice()
 }
 
-/// Adds to remarks those on a transaction set with this identifier (ST01), of which these are the bytes
-/// from the S of ST on: in the order of its segments, then what it lacks, then its counts.
-pub fn lint_set(
+/// Adds what is remarked of the elements of a segment with this identifier.
+fn lint_known<'r>(
     alloc: Global,
-    table: &Table,
+    position: usize,
+    read: &Segment<'r>,
+    rules: &'r [Rule],
+    remarks: &mut Vec<Remark<'r>>,
+) -> Result<(), AllocError>
+    ensures { let flaws = remark_of_element read.now.delims position read.now.bytes.now in
+        OnOk result (map remark_view remarks.new.items
+        ≡ map remark_view remarks.old.items ++ filter_map flaws rules.now) }
+{
+    let elements = elements_of(alloc, &read.delims, read.bytes)?;
+    lint_elements(position, read, &elements, rules, remarks)
+}
+
+/// Adds what is remarked of a segment.
+#[tactic(auto, unfolding(crate::specs::Linting::remarks_of_segment))]
+fn lint_segment<'r>(
+    alloc: Global,
+    table: &'r Table,
+    rows: &SetRows,
+    position: usize,
+    read: &Segment<'r>,
+    remarks: &mut Vec<Remark<'r>>,
+) -> Result<(), AllocError>
+    ensures { OnOk result (map remark_view remarks.new.items ≡ map remark_view remarks.old.items
+        ++ remarks_of_segment table.now rows.now read.now.delims (position, read.now.bytes.now)) }
+{
+    let name = read.identifier();
+    if is_of_envelope(name) {
+        return Ok(());
+    }
+    lint_name(rows, name, position, read.bytes, remarks)?;
+    lint_known(
+        alloc,
+        position,
+        read,
+        rules_of_segment(table, name),
+        remarks,
+    )
+}
+
+/// Adds what is remarked of each segment of a set.
+fn lint_segments<'r>(
+    alloc: Global,
+    table: &'r Table,
+    rows: &SetRows,
+    delims: &Delims,
+    parts: &[&'r [u8]],
+    remarks: &mut Vec<Remark<'r>>,
+) -> Result<(), AllocError>
+    ensures { OnOk result (map remark_view remarks.new.items ≡ map remark_view remarks.old.items
+        ++ flat_map (remarks_of_segment table.now rows.now delims.now)
+        (enumerate_from 1 (texts parts.now))) }
+{
+    for (index, part) in parts.iter().enumerate() {
+        lint_segment(
+            alloc,
+            table,
+            rows,
+            index + 1,
+            &read_of(delims, part),
+            remarks,
+        )?;
+    }
+    Ok(())
+}
+
+/// That a segment which has to be there isn't.
+#[tactic(auto, unfolding(crate::specs::Linting::remark_of_missing))]
+fn missing_remark<'r>(
+    delims: &Delims,
+    parts: &[&'r [u8]],
+    row: &'r SegmentRow,
+) -> Option<Remark<'r>>
+    ensures { option_map remark_view result
+        ≡ remark_of_missing delims.now (texts parts.now) row.now }
+{
+    if !row.is_required || some_has_name(delims, &row.segment, parts) {
+        return None;
+    }
+    Some(Remark::MissingSegment {
+        position: parts.len(),
+        identifier: &row.segment,
+    })
+}
+
+/// Adds which segments a set lacks.
+fn lint_missing<'r>(
+    delims: &Delims,
+    parts: &[&'r [u8]],
+    rows: &'r [SegmentRow],
+    remarks: &mut Vec<Remark<'r>>,
+) -> Result<(), AllocError>
+    ensures { let missing = remark_of_missing delims.now (texts parts.now) in
+        OnOk result (map remark_view remarks.new.items
+        ≡ map remark_view remarks.old.items ++ filter_map missing rows.now) }
+{
+    for row in rows {
+        add(remarks, missing_remark(delims, parts, row))?;
+    }
+    Ok(())
+}
+
+/// Whether digits spell this number.
+fn spells(text: &[u8], number: usize) -> bool
+    ensures { result ≡ is_this_number (number_of_digits text.now) number }
+{
+    match number_of(text) {
+        Some(said) => said as usize == number,
+        None => false,
+    }
+}
+
+/// Whether a text is a number, but another one than this.
+fn says_another(text: &[u8], number: usize) -> bool
+    ensures { result ≡ is_another_number text.now number }
+{
+    ElementKind::Integer.holds(text) && !spells(text, number)
+}
+
+/// That the segment which counts, where there is one, says another number than this.
+fn wrong_count<'r>(
+    delims: &Delims,
+    place: Option<Place<'r>>,
+    counted: &'r [u8],
+    number: usize,
+) -> Option<Remark<'r>>
+    ensures { let placed = option_map (λ p. placed_at p.position p.segment.now) place.entry in
+        option_map remark_view result
+        ≡ remark_of_counting delims.now counted.now number placed }
+{
+    let Place { position, segment } = place?;
+    if !says_another(read_of(delims, segment).element(1), number) {
+        return None;
+    }
+    Some(Remark::Count {
+        position,
+        segment,
+        counted,
+        number,
+    })
+}
+
+/// That a count isn't the number of the segments that it counts.
+#[tactic(auto, unfolding(crate::specs::Linting::remark_of_count))]
+fn count_remark<'r>(delims: &Delims, parts: &[&'r [u8]], count: &'r Counting) -> Option<Remark<'r>>
+    ensures { option_map remark_view result
+        ≡ remark_of_count delims.now (texts parts.now) count.now }
+{
+    let place = first_named(delims, &count.segment, parts);
+    let number = count_named(delims, &count.counted, parts);
+    wrong_count(delims, place, &count.counted, number)
+}
+
+/// Adds which counts of a set are wrong.
+fn lint_counts<'r>(
+    delims: &Delims,
+    parts: &[&'r [u8]],
+    counts: &'r [Counting],
+    remarks: &mut Vec<Remark<'r>>,
+) -> Result<(), AllocError>
+    ensures { let wrong = remark_of_count delims.now (texts parts.now) in
+        OnOk result (map remark_view remarks.new.items
+        ≡ map remark_view remarks.old.items ++ filter_map wrong counts.now) }
+{
+    for count in counts {
+        add(remarks, count_remark(delims, parts, count))?;
+    }
+    Ok(())
+}
+
+/// What is remarked of a set that has rows.
+#[tactic(auto, unfolding(crate::specs::Linting::remarks_by_rows))]
+fn lint_rows<'r>(
+    alloc: Global,
+    table: &'r Table,
+    rows: &'r SetRows,
+    delims: &Delims,
+    parts: &[&'r [u8]],
+) -> Result<Vec<Remark<'r>>, AllocError>
+    ensures { IfOk result (λ remarks. map remark_view remarks.items
+        ≡ remarks_by_rows table.now delims.now (texts parts.now) rows.now) }
+{
+    let mut remarks = Vec::new(alloc);
+    lint_segments(alloc, table, rows, delims, parts, &mut remarks)?;
+    lint_missing(delims, parts, &rows.segments, &mut remarks)?;
+    lint_counts(delims, parts, &rows.counts, &mut remarks)?;
+    Ok(remarks)
+}
+
+/// That the table has no rows for a set.
+fn unknown_set<'r>(alloc: Global) -> Result<Vec<Remark<'r>>, AllocError>
+    ensures { IfOk result (λ remarks. map remark_view remarks.items ≡ SetRemark.unknown_set ∷ []) }
+{
+    let mut remarks = Vec::new(alloc);
+    add(&mut remarks, Some(Remark::UnknownSet))?;
+    Ok(remarks)
+}
+
+/// What is remarked of a set with this identifier (ST01), of which these are the bytes from ST on: of
+/// its segments in order, then what it lacks, then its counts.
+#[tactic(auto, unfolding(crate::specs::Linting::remarks_of_set))]
+pub fn lint_set<'r>(
+    alloc: Global,
+    table: &'r Table,
     delims: &Delims,
     identifier: &[u8],
-    set: &[u8],
-    remarks: &mut Vec<Remark>,
-) -> Result<(), AllocError> {
-    let Some(index) = find_set(&table.sets, identifier) else {
-        let (position, at, count) = (1, 0, 2);
-        let what = What::UnknownSet;
-        return Ok(remarks.push(Remark {
-            what,
-            position,
-            at,
-            count,
-        })?);
-    };
-    let Some(rows) = table.sets.get(index) else {
-        return Ok(());
-    };
-    let mut going = Going {
-        table,
-        rows,
-        index,
-        delims: *delims,
-        seen: Vec::new(alloc),
-    };
-    lint_rows(&mut going, set, remarks)
+    set: &'r [u8],
+) -> Result<Vec<Remark<'r>>, AllocError>
+    ensures { IfOk result (λ remarks. map remark_view remarks.items
+        ≡ remarks_of_set table.now delims.now identifier.now set.now) }
+{
+    match rows_of_set(table, identifier) {
+        Some(rows) => {
+            let parts = segments_of(alloc, delims, set)?;
+            lint_rows(alloc, table, rows, delims, &parts)
+        }
+        None => unknown_set(alloc),
+    }
 }

@@ -1,31 +1,46 @@
-//! Remarks on a transaction set: which row of the table isn't met, and where.
+//! Remarks on a transaction set: which row of the table isn't met, and by which segment.
 
-use crate::element::Flaw;
+use crate::element::{Flaw, Rule};
 
-/// What is remarked. Rows of the table are named by their indices.
-#[derive(Clone, Copy, PartialEq, Eq)]
-pub enum What {
-    /// The table has no row for the set.
+/// A remark on a transaction set. Positions are those of its segments: ST is 1.
+#[derive(Clone, Copy)]
+pub enum Remark<'r> {
+    /// The table has no rows for the set.
     UnknownSet,
     /// The set's rows have no such segment.
-    UnknownSegment,
-    /// A segment that the set has to have isn't there: the set's index, and the row's.
-    MissingSegment(usize, usize),
-    /// An element isn't as its rule says: the segment's index, the rule's, and what is wrong.
-    Element(usize, usize, Flaw),
-    /// A count isn't that of the segments: the set's index, the row's, and how many there are.
-    Count(usize, usize, u32),
-}
-
-/// A remark, and where it stands.
-#[derive(Clone, Copy, PartialEq, Eq)]
-pub struct Remark {
-    /// What is remarked.
-    pub what: What,
-    /// The position of the segment in its set: ST is 1.
-    pub position: u32,
-    /// The offset of what is remarked, from the S of ST.
-    pub at: usize,
-    /// How many bytes it has.
-    pub count: usize,
+    UnknownSegment {
+        /// The segment's position.
+        position: usize,
+        /// Its bytes.
+        segment: &'r [u8],
+    },
+    /// A segment that the set has to have isn't there.
+    MissingSegment {
+        /// The position of the set's last segment.
+        position: usize,
+        /// The missing segment's identifier.
+        identifier: &'r [u8],
+    },
+    /// An element isn't as its rule says.
+    Element {
+        /// The position of its segment.
+        position: usize,
+        /// Its segment's bytes.
+        segment: &'r [u8],
+        /// Its rule.
+        rule: &'r Rule,
+        /// What is wrong.
+        flaw: Flaw,
+    },
+    /// The first element of a segment isn't the number of the segments that it counts.
+    Count {
+        /// The position of the segment that counts.
+        position: usize,
+        /// Its bytes.
+        segment: &'r [u8],
+        /// The identifier of the segments that it counts.
+        counted: &'r [u8],
+        /// How many there are.
+        number: usize,
+    },
 }

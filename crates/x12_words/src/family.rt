@@ -3,18 +3,19 @@
 ghost use Rattle.std.specs.Prelude.{◌≡◌, IfSome};
 
 use crate::wording::Wording;
-use crate::{faults, groups, interchanges, notes, sets};
+use crate::{faults, groups, interchanges, notes, remarks, sets};
 
 /// The families of codes: of faults their letter (`H`), of codes of a reply the element that they
-/// stand in (`AK403`); of the notes of an interchange, which stand in TA105, `TA1`.
-pub const FAMILIES: [&str; 15] = [
+/// stand in (`AK403`); of the notes of an interchange, which stand in TA105, `TA1`; of remarks, `LINT`.
+pub const FAMILIES: [&str; 16] = [
     "H", "N", "O", "S", "B", "V", "L", "TA1", "TA104", "AK304", "AK403", "AK501", "AK502", "AK901",
-    "AK905",
+    "AK905", "LINT",
 ];
 
 /// Each code of a family in words, in the order of the family; none of what isn't a family.
 pub fn wordings(family: &str) -> &'static [Wording] {
     match family {
+        "LINT" => &remarks::LINT,
         "H" => &faults::HEADER,
         "N" => &faults::NUMBER,
         "O" => &faults::OUTLINE,

@@ -1,4 +1,4 @@
-//! The words of codes: of each code that a reply, a refusal or a fault has, what it says and what to
+//! The words of codes: of each code that a reply, a refusal, a fault or a remark has, what it says and what to
 //! do about it, one table a family.
 #![tactic(auto)]
 
@@ -8,6 +8,7 @@ mod faults;
 mod groups;
 mod interchanges;
 mod notes;
+mod remarks;
 mod sets;
 mod wording;
 
