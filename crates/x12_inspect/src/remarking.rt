@@ -7,7 +7,7 @@ use crate::slice::Interchange;
 use crate::style::{Form, Style};
 use crate::text::Text;
 use std::alloc::{AllocError, Global};
-use x12_envelopes::Delims;
+use x12_envelopes::{Delims, Header};
 use x12_judge::{GroupVerdict, SetVerdict};
 use x12_lint::{Remark, Table, lint_set};
 
@@ -26,7 +26,9 @@ pub(crate) struct Remarks {
 /// A set that is remarked on, where it stands.
 #[derive(Clone, Copy)]
 struct Remarked<'r, 'a> {
-    at: &'r Interchange<'r, 'a>,
+    /// The place of its interchange in the input, from 1, and the interchange's header.
+    interchange: usize,
+    header: Header,
     group: &'r GroupVerdict<'a>,
     /// Its place in its group, from 1.
     place: usize,
@@ -52,15 +54,15 @@ impl Remarked<'_, '_> {
         out.begin_item();
         members!(out; "group": self.group.place, "set": self.place, "type": &self.set.set);
         out.member("set_number", self.set.number.as_bytes());
-        said.put_members(out, &self.at.header.delims);
+        said.put_members(out, &self.header.delims);
         out.say("}");
     }
 
     /// Adds a remark as a line of CSV.
     fn put_row(&self, out: &mut Text, file: &str, said: &Said<'_>) {
-        let header = self.at.header;
+        let header = &self.header;
         out.cell_text(file.as_bytes());
-        cells!(out; self.at.place, icn(header.icn), &header.sender, &header.receiver);
+        cells!(out; self.interchange, icn(header.icn), &header.sender, &header.receiver);
         cells!(out; self.group.place, &self.group.functional, self.group.number_text);
         cells!(out; self.place, &self.set.set, self.set.number.as_bytes());
         said.put_cells(out, &header.delims);
@@ -69,7 +71,7 @@ impl Remarked<'_, '_> {
     /// Adds a remark in a form.
     fn add(&self, style: &Style<'_>, out: &mut Text, said: &Said<'_>) {
         match style.form {
-            Form::Text => said.say_line(out, &self.at.header.delims),
+            Form::Text => said.say_line(out, &self.header.delims),
             Form::Json => self.put_object(out, said),
             Form::Csv => self.put_row(out, style.file, said),
         }
@@ -93,7 +95,7 @@ impl Remarked<'_, '_> {
         style: &Style<'_>,
         remarks: &mut Remarks,
     ) -> Result<(), AllocError> {
-        let delims = self.at.header.delims;
+        let delims = self.header.delims;
         let found = lint_set(alloc, table, &delims, &self.set.set, self.set.bytes)?;
         let told = told_of(alloc, &delims, &found)?;
         self.tell(style, &mut remarks.text, found.len(), &told);
@@ -144,7 +146,8 @@ pub(crate) fn remarks_on(
         for (index, set) in group.sets.iter().enumerate() {
             let place = index.saturating_add(1);
             let one = Remarked {
-                at,
+                interchange: at.place,
+                header: *at.header,
                 group,
                 place,
                 set,
