@@ -3,10 +3,12 @@
 
 mod command;
 mod network;
+mod report_json;
 mod script;
 mod shelf;
 
 use crate::command::{COMMANDS, Command};
+use crate::script::Printed;
 use anyhow::Result;
 use clap::ArgMatches;
 use command_table::{Fault, Group, Parsed, Program, help_text, parse, process_words};
@@ -28,8 +30,8 @@ fn run_command<T: Threads + Wait + Sync>(
     match command {
         Command::Answer => Ok(answer_command::run(rt, found)?),
         Command::Network => network::run(rt, threads, found),
-        Command::Script => script::run(rt, false),
-        Command::Report => script::run(rt, true),
+        Command::Script => script::run(rt, Printed::Lines, found),
+        Command::Report => script::run(rt, script::printed_of(found), found),
     }
 }
 

@@ -6,7 +6,7 @@ use anyhow::Result;
 use clap::ArgMatches;
 use command_table::{Kind, Row, Word};
 use std::fmt::Display;
-use std::io::IsTerminal;
+use std::io::{IsTerminal, Write};
 use std::process::ExitCode;
 use std::sync::Wait;
 use std::thread::Threads;
@@ -29,8 +29,9 @@ With two hubs stations of even numbers are at HUB2, the others at HUB: orders
 between them go from hub to hub.
 It prints a line for each submitted transaction set, as `vanlab report` does, and
 `settled`: all that the nodes did is one run of the network, and their callers
-have a receipt of each call. Where that isn't so it prints `inconsistent` and
-what was found wrong: Stamp, Packet, Replay, Receipt or Stranger.
+have a receipt of each call. Sets that are pending then are counted on standard
+error, as `consistent, 40 pending`. Else it prints `inconsistent` and what was
+found wrong: Stamp, Packet, Replay, Receipt or Stranger.
 On a terminal a line on standard error says how the network stands meanwhile.
 
 Example:
@@ -66,37 +67,37 @@ static WORDS: [Word; 9] = [
         kind: Kind::Default("0"),
         name: "lose",
         value: "N",
-        help: "Each how many-th packet of a link is lost; 0: none",
+        help: "Loses every Nth packet of each link; 0 loses none",
     },
     Word {
         kind: Kind::Default("0"),
         name: "double",
         value: "N",
-        help: "Each how many-th is put twice; 0: none",
+        help: "Delivers every Nth of the others twice; 0 doubles none",
     },
     Word {
         kind: Kind::Default("0"),
         name: "hold",
         value: "N",
-        help: "Each how many-th is held until the next one; 0: none",
+        help: "Delivers every Nth of the others after the next one; 0 holds none",
     },
     Word {
         kind: Kind::Default("100000"),
         name: "turns",
         value: "N",
-        help: "How many turns a node makes at most, 1 to 1000000",
+        help: "At most so many turns a node, 1 to 1000000",
     },
     Word {
         kind: Kind::Value,
         name: "sqlite",
         value: "FOLDER",
-        help: "Keeps each node's records in a file in this folder, which is made, or is empty",
+        help: "Keeps the records of each node in a file of this folder, which is new or empty",
     },
     Word {
         kind: Kind::Flag,
         name: "quiet",
         value: "",
-        help: "Shows no line on a terminal that says how the network stands",
+        help: "Shows no line on a terminal while it runs",
     },
 ];
 
@@ -142,6 +143,26 @@ fn refused<E: Display + Drop>(rt: &HostRuntime, fault: E) -> Result<ExitCode> {
     Ok(ExitCode::from(1))
 }
 
+/// Whether a line of a report tells of a set that is pending.
+fn is_pending(line: &[u8]) -> bool {
+    match line.get(55..63) {
+        Some(fate) => fate == b"pending ".as_slice(),
+        None => false,
+    }
+}
+
+/// Says on standard error how many sets of a consistent network are pending, where any are.
+fn tell_pending(rt: &HostRuntime, told: &[u8]) -> Result<ExitCode> {
+    let mut pending = 0usize;
+    for line in told.split(|b| *b == b'\n') {
+        pending = pending.saturating_add(usize::from(is_pending(line)));
+    }
+    if pending > 0 {
+        eprintln!(rt; "consistent, {pending} pending")?;
+    }
+    Ok(ExitCode::SUCCESS)
+}
+
 /// Runs a trial over these nodes, with a line that says how it stands on a terminal.
 fn run_nodes<R, H, T>(
     rt: &HostRuntime,
@@ -158,12 +179,16 @@ where
     let line = Line { rt };
     let shown = !quiet && rt.stderr().is_terminal();
     let watch = if shown { Some(&line) } else { None };
-    let ended = run_trial(threads, rt.alloc(), nodes, plan, watch, &mut rt.stdout());
+    let mut told = Vec::new(rt.alloc());
+    let ended = run_trial(threads, rt.alloc(), nodes, plan, watch, &mut told);
     if shown {
         eprint!(rt; "\r\x1b[K")?;
     }
+    if rt.stdout().write_all(&told).is_err() {
+        return refused(rt, TrialFault::Write);
+    }
     match ended {
-        Ok(TrialStatus::Settled) => Ok(ExitCode::SUCCESS),
+        Ok(TrialStatus::Settled) => tell_pending(rt, &told),
         Ok(TrialStatus::BadReport | TrialStatus::Inconsistent) => Ok(ExitCode::from(1)),
         Err(fault) => refused(rt, fault),
     }

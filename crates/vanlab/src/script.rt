@@ -1,9 +1,15 @@
-//! `vanlab script` and `vanlab report`: run a network from the script on standard input, and print
-//! what comes of each line, or the report of the end alone.
+//! `vanlab script` and `vanlab report`: run a network from a script, and print what comes of each line,
+//! or the report of the end alone.
 
+use crate::report_json;
 use anyhow::Result;
-use command_table::Row;
+use clap::ArgMatches;
+use command_table::{Kind, Row, Word};
+use std::fmt::Display;
+use std::fs::File;
+use std::io::{Read, Write};
 use std::process::ExitCode;
+use x12_answering::RunFault;
 use x12_vanlab::{ScriptStatus, run_script};
 
 const SCRIPT: &str =
@@ -12,10 +18,11 @@ const SCRIPT: &str =
 const REPORT: &str = "Runs a script, and prints the report of its end alone.";
 
 const SCRIPT_MORE: &str = "\
-The script stands on standard input: ASCII lines, words parted by one space. A
-name is 2 to 15 capital letters and digits, and means the party ZZ with it; HUB
-is the hub, HUB2 a second one. A packet is named by its event and its place, as
-4.1.
+The script is a file, or comes on standard input: ASCII lines, words parted by
+one space. A name is 2 to 15 capital letters and digits, and means the party ZZ
+with it; HUB is the hub, HUB2 a second one. A packet is named by its event and
+its place, as 4.1. From # at a line's front or behind a blank to its end stands a
+comment, but in the lines orders, prepared and outside.
   clock DATE TIME            the moment of later events, as 20250102 0930
   hub2                       a second hub, in front of the stations
   station NAME [HUB2]        a station; these lines stand in front
@@ -42,7 +49,7 @@ An event prints its number and the packets that it sends, as
 run.
 
 Example:
-  vanlab script < samples/lost_twice.script
+  vanlab script samples/lost_twice.script
 
 Exit status:
   0  done
@@ -50,10 +57,10 @@ Exit status:
   2  the command line is wrong";
 
 const REPORT_MORE: &str = "\
-The script stands on standard input; `vanlab script --help` has its lines. A line
-of the report tells of one submitted transaction set: its sender, number, group
-and place, its receiver, how it fares (pending, accepted, noted, rejected), how
-often it stands in its receiver's postings, and a mark.
+`vanlab script --help` has the lines of a script. A line of the report tells of
+one submitted transaction set: its sender, number, group and place, its receiver,
+how it fares (pending, accepted, noted, rejected), how often it stands in its
+receiver's postings, and a mark.
   ok   accepted or noted and posted once, rejected and not posted, or pending and
        posted at most once, and each time byte for byte as it was submitted
   BAD  anything else
@@ -61,12 +68,34 @@ often it stands in its receiver's postings, and a mark.
 A bad line prints `line 3: bad line` in the report's place.
 
 Example:
-  vanlab report < samples/lost_twice.script
+  vanlab report samples/lost_twice.script
 
 Exit status:
   0  done
   1  a line is bad, a line of the report says BAD, or the run stopped
   2  the command line is wrong";
+
+/// The word that names the script.
+const FILE: Word = Word {
+    kind: Kind::Many,
+    name: "file",
+    value: "FILE",
+    help: "The script, or - for standard input, which is read where none is named",
+};
+
+/// The words of `vanlab script`.
+static SCRIPT_WORDS: [Word; 1] = [FILE];
+
+/// The words of `vanlab report`.
+static REPORT_WORDS: [Word; 2] = [
+    Word {
+        kind: Kind::Flag,
+        name: "json",
+        value: "",
+        help: "Writes one JSON object a line for each transaction set",
+    },
+    FILE,
+];
 
 /// The part of the command line that prints what comes of each line.
 pub(crate) fn script_row() -> Row {
@@ -74,7 +103,7 @@ pub(crate) fn script_row() -> Row {
         name: "script",
         about: SCRIPT,
         more: SCRIPT_MORE,
-        words: &[],
+        words: &SCRIPT_WORDS,
     }
 }
 
@@ -84,25 +113,95 @@ pub(crate) fn report_row() -> Row {
         name: "report",
         about: REPORT,
         more: REPORT_MORE,
-        words: &[],
+        words: &REPORT_WORDS,
     }
 }
 
-/// Runs the script on standard input, and gives the exit status.
-pub fn run(rt: &HostRuntime, report_only: bool) -> Result<ExitCode> {
-    let ended = run_script(
-        rt.alloc(),
-        report_only,
-        &mut rt.stdin(),
-        &mut rt.stdout(),
-        &mut rt.stderr(),
-    );
+/// What is printed of a script.
+#[derive(Clone, Copy, PartialEq, Eq)]
+pub enum Printed {
+    /// What comes of each line.
+    Lines,
+    /// The report of its end.
+    Report,
+    /// The same as JSON.
+    Objects,
+}
+
+/// What `vanlab report` prints.
+pub fn printed_of(found: &ArgMatches<'_>) -> Printed {
+    if found.get_flag("json") {
+        Printed::Objects
+    } else {
+        Printed::Report
+    }
+}
+
+/// Runs a script, and writes the report of its end as JSON.
+fn report_objects<R: Read>(
+    rt: &HostRuntime,
+    reader: &mut R,
+) -> Result<Result<ScriptStatus, RunFault>> {
+    let mut told = Vec::new(rt.alloc());
+    let ended = run_script(rt.alloc(), true, reader, &mut told, &mut rt.stderr());
+    let objects = report_json::objects(rt.alloc(), &told)?;
+    if rt.stdout().write_all(&objects).is_err() {
+        return Ok(Err(RunFault::Write));
+    }
+    Ok(ended)
+}
+
+/// Runs a script from a reader.
+fn run_from<R: Read>(
+    rt: &HostRuntime,
+    printed: Printed,
+    reader: &mut R,
+) -> Result<Result<ScriptStatus, RunFault>> {
+    if printed == Printed::Objects {
+        return report_objects(rt, reader);
+    }
+    let report_only = printed == Printed::Report;
+    let (out, err) = (&mut rt.stdout(), &mut rt.stderr());
+    Ok(run_script(rt.alloc(), report_only, reader, out, err))
+}
+
+/// Says why there is no run, and gives the exit status.
+fn refuse<E: Display + Drop>(rt: &HostRuntime, why: E) -> Result<ExitCode> {
+    eprintln!(rt; "error: {why}")?;
+    Ok(ExitCode::from(1))
+}
+
+/// The exit status of a run.
+fn status(rt: &HostRuntime, ended: Result<ScriptStatus, RunFault>) -> Result<ExitCode> {
     match ended {
         Ok(ScriptStatus::Done) => Ok(ExitCode::SUCCESS),
         Ok(ScriptStatus::BadLine | ScriptStatus::BadReport) => Ok(ExitCode::from(1)),
-        Err(fault) => {
-            eprintln!(rt; "error: {fault}")?;
-            Ok(ExitCode::from(1))
+        Err(fault) => refuse(rt, fault),
+    }
+}
+
+/// Runs the script of this name, and gives the exit status.
+fn run_named(rt: &HostRuntime, printed: Printed, name: &str) -> Result<ExitCode> {
+    if name == "-" {
+        return status(rt, run_from(rt, printed, &mut rt.stdin())?);
+    }
+    match File::open(rt, name) {
+        Ok(mut file) => status(rt, run_from(rt, printed, &mut file)?),
+        Err(error) => refuse(
+            rt,
+            format!(in rt.alloc(); "{name}: it can't be opened: {error}")?,
+        ),
+    }
+}
+
+/// Runs the script that the command line names, and gives the exit status.
+pub fn run(rt: &HostRuntime, printed: Printed, found: &ArgMatches<'_>) -> Result<ExitCode> {
+    match found.get_strs("file").unwrap_or(&[]) {
+        [] => run_named(rt, printed, "-"),
+        [name] => run_named(rt, printed, name),
+        _ => {
+            eprintln!(rt; "error: one script is run at a time")?;
+            Ok(ExitCode::from(2))
         }
     }
 }

@@ -5,6 +5,7 @@
 mod script;
 mod script_action;
 mod script_bad_line;
+mod script_comment;
 mod script_event;
 mod script_fault;
 mod script_form;

@@ -26,6 +26,8 @@ pub(crate) enum Line<'a> {
     Postings(Name),
     /// How do all transaction sets fare?
     Report,
+    /// Nothing but a comment.
+    Comment,
 }
 
 /// A transaction set by its places.

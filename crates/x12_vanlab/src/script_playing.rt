@@ -178,6 +178,7 @@ impl Script {
             Line::Fate(place) => self.tell_fate(net, place),
             Line::Counts(name) => self.tell_counts(net, name),
             Line::Postings(name) => self.tell_postings(net, name),
+            Line::Comment => Ok(()),
             Line::Report if self.report_only => Ok(()),
             Line::Report => Ok(self.report(net)?),
         }
@@ -190,6 +191,7 @@ impl Script {
             Line::Clock(at) => self.setting.at = at,
             Line::SecondHub => self.setting.add_second_hub()?,
             Line::Station(station) => self.setting.add(station)?,
+            Line::Comment => {}
             _ if self.setting.is_empty() => return Err(Stop::BadLine(LineFault::NoStation)),
             _ => return Ok(false),
         }

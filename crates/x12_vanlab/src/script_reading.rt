@@ -1,6 +1,7 @@
 //! Reading a line of a script.
 
 use crate::script_action::read_action;
+use crate::script_comment::without_comment;
 use crate::script_fault::LineFault;
 use crate::script_form::{
     clock, counts, deliver, fate, outside, postings, report, second_hub, show, station,
@@ -59,9 +60,18 @@ fn read_words<'a>(word: &'a str, rest: Option<&'a [u8]>) -> Result<Line<'a>, Lin
     }
 }
 
-/// Reads a line, which is given without its LF.
-pub(crate) fn read_line<'a>(line: &'a [u8]) -> Result<Line<'a>, LineFault<'a>> {
+/// Reads a line without a comment.
+fn read_bare<'a>(line: &'a [u8]) -> Result<Line<'a>, LineFault<'a>> {
     check(line)?;
     let (word, rest) = cut_word(line);
     read_words(text_of(word), rest)
+}
+
+/// Reads a line, which is given without its LF.
+pub(crate) fn read_line<'a>(line: &'a [u8]) -> Result<Line<'a>, LineFault<'a>> {
+    match without_comment(line) {
+        Some(front) if front.is_empty() => Ok(Line::Comment),
+        Some(front) => read_bare(front),
+        None => read_bare(line),
+    }
 }
