@@ -46,9 +46,9 @@ def try_examples():
 
 
 def first_line(text, word):
-    """The first line of a text that runs a word of vanlab on a file: its words, and the file."""
-    found = re.search(rf"^ *(?:\./)?van(?:lab)? ({word} .*?)< *(\S+)", text, re.M)
-    return found and found.groups()
+    """The first line of a text that runs a word of vanlab on a file or a script: its words, and the file."""
+    found = re.search(rf"^ *(?:\./)?van(?:lab)? ({word} .*?)(?:< *(\S+)|(samples/\S+))", text, re.M)
+    return found and (found[1], found[2] or found[3])
 
 
 def stored(word, path):
