@@ -12,7 +12,7 @@ use Rattle.x12_links.specs.declared.course.Halt.{Halt}
 use Rattle.x12_links.specs.declared.inbox.Inlet.{Inlet}
 use Rattle.x12_links.specs.declared.worker.Delivery.{Delivery}
 use Rattle.x12_links.specs.Link.{IsNewInlet}
-use Rattle.x12_links.specs.Worker.{cut_by, made, made_of, senders_of, AreDistinct, AreSameInboxes, Asked, IsChosen, IsServed, IsServing, Serves}
+use Rattle.x12_links.specs.Worker.{cut_by, made, made_of, senders_of, AreDistinct, AreSameInboxes, AskedParcel, IsChosen, IsServed, IsServing, Serves}
 
 -- a call that ended by a halt
 pub cut_where : {X Y : Type 0} → (r : Result X Halt) (t : Result Y Halt) (halt : Halt) → r ≡ Err halt → IsErr t → cut_by r ≡ cut_by t
@@ -20,25 +20,25 @@ cut_where r (Ok y) halt is err = absurd (true≢false (sym err))
 cut_where r (Err why) halt is err = ap cut_by is
 
 module _ {P : Type 0} where
-  made_of_push : (asked : List (Asked P)) (a : Asked P) → made_of (asked ++ a ∷ []) ≡ made_of asked ++ made (Ok a.answer) a.parcel
+  made_of_push : (asked : List (AskedParcel P)) (a : AskedParcel P) → made_of (asked ++ a ∷ []) ≡ made_of asked ++ made (Ok a.answer) a.parcel
   made_of_push [] a = append-nil (made (Ok a.answer) a.parcel)
   made_of_push (b ∷ asked) a = ap (λ l. made (Ok b.answer) b.parcel ++ l) (made_of_push asked a) ∙ sym (append_assoc (made (Ok b.answer) b.parcel) (made_of asked) (made (Ok a.answer) a.parcel))
 
   -- without a halt each parcel was asked for
-  none_cut : (answers : P → Delivery → Type 0) (delivered took : List P) → (was : IsChosen answers 0 delivered took) → took ≡ map (λ (a : Asked P). a.parcel) was.asked
-  none_cut answers delivered took was = was.all ∙ ap (λ l. map (λ (a : Asked P). a.parcel) was.asked ++ l) (nil_from_length was.cut (omega (arith, was.few))) ∙ append-nil (map (λ (a : Asked P). a.parcel) was.asked)
+  none_cut : (answers : P → Delivery → Type 0) (delivered took : List P) → (was : IsChosen answers 0 delivered took) → took ≡ map (λ (a : AskedParcel P). a.parcel) was.asked
+  none_cut answers delivered took was = was.all ∙ ap (λ l. map (λ (a : AskedParcel P). a.parcel) was.asked ++ l) (nil_from_length was.cut (omega (arith, was.few))) ∙ append-nil (map (λ (a : AskedParcel P). a.parcel) was.asked)
 
   -- one parcel more was asked for, or cut off
   more_asked : (answers : P → Delivery → Type 0) (r : Result Delivery Halt) (took took' delivered delivered' : List P) (x : P) → IsChosen answers 0 delivered took → took' ≡ took ++ x ∷ [] → delivered' ≡ delivered ++ made r x → IfOk r (λ answer. answers x answer)
       → IsChosen answers (cut_by r) delivered' took'
   more_asked answers (Ok d) took took' delivered delivered' x was longer more told =
-      let a : Asked P = record { parcel = x; answer = d } in record {
+      let a : AskedParcel P = record { parcel = x; answer = d } in record {
         asked = was.asked ++ a ∷ [];
-        each = All-push (λ (b : Asked P). answers b.parcel b.answer) was.asked a was.each told;
+        each = All-push (λ (b : AskedParcel P). answers b.parcel b.answer) was.asked a was.each told;
         are = more ∙ ap (λ l. l ++ made (Ok d) x) was.are ∙ sym (made_of_push was.asked a);
         cut = [];
         few = omega arith;
-        all = longer ∙ ap (λ l. l ++ x ∷ []) (none_cut answers delivered took was) ∙ sym (map-append (λ (b : Asked P). b.parcel) was.asked (a ∷ [])) ∙ sym (append-nil (map (λ (b : Asked P). b.parcel) (was.asked ++ a ∷ [])));
+        all = longer ∙ ap (λ l. l ++ x ∷ []) (none_cut answers delivered took was) ∙ sym (map-append (λ (b : AskedParcel P). b.parcel) was.asked (a ∷ [])) ∙ sym (append-nil (map (λ (b : AskedParcel P). b.parcel) (was.asked ++ a ∷ [])));
       }
   more_asked answers (Err halt) took took' delivered delivered' x was longer more told = record {
     asked = was.asked;

@@ -18,7 +18,7 @@ cut_by (Ok x) = 0
 cut_by (Err halt) = 1
 
 -- a parcel that a node was asked to take, and its answer
-pub record Asked (P : Type 0) : Type 0 where
+pub record AskedParcel (P : Type 0) : Type 0 where
   pub parcel : P
   pub answer : Delivery
 
@@ -35,14 +35,14 @@ module _ {P : Type 0} where
     pub others : (from : ℕ) → from ≢ sender → new from ≡ old from
 
   -- those that the node took, in their order
-  abbrev pub made_of : List (Asked P) → List P
+  abbrev pub made_of : List (AskedParcel P) → List P
   made_of [] = []
   made_of (a ∷ more) = made (Ok a.answer) a.parcel ++ made_of more
 
   -- The node was asked to take each parcel, in this order, and gave these answers; those that it took were delivered. At the
   -- end a halt cut off so many at most.
   pub record IsChosen (answers : P → Delivery → Type 0) (most : ℕ) (delivered took : List P) : Type 0 where
-    pub asked : List (Asked P)
+    pub asked : List (AskedParcel P)
     pub each : All (λ a. answers a.parcel a.answer) asked
     pub are : delivered ≡ made_of asked
     pub cut : List P
