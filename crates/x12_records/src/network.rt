@@ -2,14 +2,14 @@
 
 ghost use Rattle.std.specs.Prelude.{◌≡◌, IfOk, IfErr, OnOk, List, map};
 ghost use Rattle.x12_profile.specs.X12.{x12};
+ghost use Rattle.x12_world.specs.Disks.{disks_of, AllClean, KeepsEach};
 ghost use Rattle.x12_world.specs.Failing.{SaysOneFailed};
 ghost use Rattle.x12_world.specs.EventView.{event_view};
 ghost use Rattle.x12_world.specs.Headline.{Headline};
 ghost use Rattle.x12_world.specs.Loss.{Happening, run_so};
-ghost use Rattle.x12_world.specs.Outsider.{OutsidersMoveNothing};
 ghost use Rattle.x12_world.specs.Ran.{RanAll, StoppedAt, outcome_view};
-ghost use Rattle.x12_world.specs.Reach.{Onward, AlwaysFollows, OfBoth, ReachedFacts};
-ghost use Rattle.x12_world.specs.Running.{AllAnswer, NoneWonBack};
+ghost use Rattle.x12_world.specs.Reach.{HoldsOnward, OfBoth};
+ghost use Rattle.x12_world.specs.Running.{AllAnswer};
 
 use sqlite::Alter;
 use x12_hub_records::SqliteHubRecords;
@@ -32,7 +32,7 @@ pub fn run<S: Alter, T: Alter>(
     network: &mut SqliteWorld<S, T>,
     events: &[Event],
 ) -> Result<Vec<Outcome>, (usize, Refused)>
-    ensures never_won_back { NoneWonBack network.old.answers network.new.answers }
+    ensures disks { KeepsEach result (disks_of network.old) (disks_of network.new) }
     ensures ran { AllAnswer network.new → IfOk result (λ os. RanAll network.old.world
         (map event_view events.now) (map outcome_view os.items) network.new.world) }
     ensures stopped { AllAnswer network.new → IfErr result (λ e.
@@ -43,12 +43,12 @@ pub fn run<S: Alter, T: Alter>(
         Headline x12 network.old.world network.new.world
         × ((more : List Happening) →
         Headline x12 network.new.world (run_so x12 more network.new.world)) }
-    ensures refines { AllAnswer network.new →
-        OfBoth (AlwaysFollows x12) network.old.world network.new.world }
-    ensures outsiders { AllAnswer network.new → OfBoth
-        (Onward x12 (OutsidersMoveNothing x12)) network.old.world network.new.world }
-    ensures facts { AllAnswer network.new → OfBoth
-        (Onward x12 (ReachedFacts x12)) network.old.world network.new.world }
+    ensures onward { AllAnswer network.new →
+        OfBoth HoldsOnward network.old.world network.new.world }
+    // the same of the world before, whatever the run came to
+    ensures before { AllAnswer network.old → HoldsOnward network.old.world }
+    ensures whole { AllAnswer network.old → AllClean network.new →
+        OnOk result (AllAnswer network.new) }
 {
     network.run(events)
 }

@@ -39,7 +39,7 @@ seam [] b d (suc n) e = absurd (omega arith)
 seam (x ∷ xs) b d zero e = absurd (omega arith)
 seam (x ∷ xs) b d (suc n) e = seam xs b d n (omega arith)
 
-in_front : (xs more : List Bool) (k : ℕ) → k < length xs → get_or (xs ++ more) k true ≡ get_or xs k true
+pub in_front : (xs more : List Bool) (k : ℕ) → k < length xs → get_or (xs ++ more) k true ≡ get_or xs k true
 in_front [] more k lt = absurd (omega arith)
 in_front (x ∷ xs) more zero lt = refl
 in_front (x ∷ xs) more (suc k) lt = in_front xs more k (omega arith)
@@ -47,16 +47,6 @@ in_front (x ∷ xs) more (suc k) lt = in_front xs more k (omega arith)
 -- None is won back: where the first, one of the last, or one between changed.
 pub won_itself : (xs : List Bool) → NoneWonBack xs xs
 won_itself xs k e = e
-
-pub won_first : (a b : Bool) (xs : List Bool) → (IsTrue b → IsTrue a) → NoneWonBack (a ∷ xs) (b ∷ xs)
-won_first a b xs back zero e = back e
-won_first a b xs back (suc k) e = e
-
-pub won_last : (xs : List Bool) (a b : Bool) → (IsTrue b → IsTrue a) → NoneWonBack (xs ++ a ∷ []) (xs ++ b ∷ [])
-won_last [] a b back zero e = back e
-won_last [] a b back (suc k) e = refl
-won_last (x ∷ xs) a b back zero e = e
-won_last (x ∷ xs) a b back (suc k) e = won_last xs a b back k e
 
 pub won_among : {R : Type 0} → (ss : List (StationView R)) (i : ℕ) (old new : StationView R) → i < length ss → old ≡ get_or ss i old → (IsTrue new.answers → IsTrue old.answers) → NoneWonBack (station_answers ss) (station_answers (set ss i new))
 won_among [] i old new lt is back k e = e

@@ -32,6 +32,7 @@ pub mod RunningLemmas
 pub mod FailingLemmas
 pub mod AnswerLemmas
 pub mod ActingLemmas
+pub mod DisksLemmas
 mod RanLemmas
 pub mod FoundingLemmas
 mod AuditingLemmas

@@ -14,7 +14,7 @@ use Rattle.x12_core.specs.Packet.{Packet}
 use Rattle.x12_world.specs.Packet.{SentPacket, named}
 use Rattle.x12_world.specs.Ran.{Ran, EachRan, StoppedAt, happening, happenings, outcome_view}
 use Rattle.x12_world.specs.Headline.{Headline}
-use Rattle.x12_world.specs.Reach.{IsReachable, ReachLaws, ReachedFacts}
+use Rattle.x12_world.specs.Reach.{HoldsOnward, IsReachable, ReachLaws, ReachedFacts}
 use Rattle.x12_world.specs.Refusing.{IsNetworkRefusal}
 use Rattle.x12_world.specs.Run.{happens}
 use Rattle.x12_world.specs.Taking.{IsTaken}
@@ -91,6 +91,14 @@ headline_both laws w new es os reach each = (headline_after laws w new es os rea
 
 pub facts_later : (laws : ReachLaws x12) (w : World) → IsReachable x12 w → (more : List Happening) → ReachedFacts x12 (run_so x12 more w)
 facts_later laws w reach more = laws.facts (run_so x12 more w) (laws.later w reach more)
+
+pub onward_of : (laws : ReachLaws x12) (w : World) → IsReachable x12 w → HoldsOnward w
+onward_of laws w reach = record {
+  headline = laws.headline w reach;
+  refines = laws.refines w reach;
+  outsiders = λ more. (facts_later laws w reach more).outsiders;
+  facts = facts_later laws w reach;
+}
 
 -- a run that stopped
 pub stopped : (w new : World) (es : List Event) (os : List EventOutcome) (place : ℕ) (r : Refused) (e : Event) → place ≤ length es → EachRan w (take place es) os new → slice_get es place ≡ Some e → IsNetworkRefusal new e r → StoppedAt w es place r new

@@ -24,6 +24,7 @@ pub mod View
 pub mod EventView
 pub mod Failing
 pub mod Running
+pub mod Disks
 pub mod Runs
 pub mod Taking
 pub mod Refusing

@@ -2,6 +2,7 @@
 -- network is, and all that holds of it and of every later one.
 use Rattle.std.specs.Prelude.{◌≡◌, ◌≤◌, List, [], ◌∷◌, IsSome, length}
 use Rattle.x12_profile.specs.Profile.{Profile}
+use Rattle.x12_profile.specs.X12.{x12}
 use Rattle.x12_world.specs.World.{World}
 use Rattle.x12_world.specs.Network.{Network, IsNetwork}
 use Rattle.x12_world.specs.Run.{new_world}
@@ -58,6 +59,13 @@ module _ (p : Profile) where
         → Headline p w (run_so p hs w)
     -- and that it refines
     pub refines : (w : World) → IsReachable w → AlwaysFollows w
+
+-- all that holds of a world of X12 that was reached, and of each later one
+pub record HoldsOnward (w : World) : Type 0 where
+  pub headline : (more : List Happening) → Headline x12 w (run_so x12 more w)
+  pub refines : AlwaysFollows x12 w
+  pub outsiders : Onward x12 (OutsidersMoveNothing x12) w
+  pub facts : Onward x12 (ReachedFacts x12) w
 
 -- of the world before a run, and of the one after it
 abbrev pub OfBoth : (World → Type 0) → World → World → Type 0

@@ -1,5 +1,5 @@
 -- A network that runs: its world, as its cores and its packets are, whether the records of each node
--- have answered so far, and how often they failed.
+-- have answered so far, whether their disk has returned what was written, and how often they failed.
 use Rattle.std.specs.Prelude.{ℕ, List, [], ◌∷◌, ◌++◌, ◌≤◌, ◌-◌, Bool, true, ◌==◌, if◌then◌else◌, Option, Some, None, IsSome, IsTrue, get_or, map, length, option_map, option_to_list, Vec}
 use Rattle.std.specs.Global.{Global}
 use Rattle.std.specs.List.{list_all}
@@ -19,6 +19,8 @@ pub record Running : Type 0 where
   pub world : World
   -- whether the records of each node answer, in the order of the nodes: the second hub's last
   pub answers : List Bool
+  -- whether their disks have returned what was written
+  pub clean : List Bool
   -- how often they failed
   pub failures : List ℕ
 
@@ -125,6 +127,19 @@ founders_answers h second ss = founders_beside h second (station_answers ss)
 -- whether the records of all of them answer
 abbrev pub founders_answer : {H R : Type 0} → HubView H → Option (HubView H) → List (StationView R) → Bool
 founders_answer h second ss = all_true (founders_answers h second ss)
+
+-- the same of what their disks returned
+abbrev pub founders_clean_beside : {H : Type 0} → HubView H → Option (HubView H) → List Bool → List Bool
+founders_clean_beside h second cs = (h.clean ∷ cs) ++ map (λ k. k.clean) (option_to_list second)
+
+abbrev pub station_clean : {R : Type 0} → List (StationView R) → List Bool
+station_clean ss = map (λ s. s.clean) ss
+
+abbrev pub founders_clean : {H R : Type 0} → HubView H → Option (HubView H) → List (StationView R) → List Bool
+founders_clean h second ss = founders_clean_beside h second (station_clean ss)
+
+abbrev pub clean_beside : {H : Type 0} → CodeHubs H → List Bool → List Bool
+clean_beside h cs = founders_clean_beside h.first h.second cs
 
 -- whether the records of each node answer, and whether those of all do
 abbrev pub answers_beside : {H : Type 0} → CodeHubs H → List Bool → List Bool

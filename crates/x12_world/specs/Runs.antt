@@ -9,7 +9,7 @@ use Rattle.x12_world.specs.Asking.{states_of}
 use Rattle.x12_world.specs.declared.hubs.Hubs.{Hubs as CodeHubs}
 use Rattle.x12_world.specs.Reach.{IsReachable}
 use Rattle.x12_world.specs.Failing.{failures_of}
-use Rattle.x12_world.specs.Running.{Running, answering, nodes_answer, world_of}
+use Rattle.x12_world.specs.Running.{Running, answering, clean_beside, nodes_answer, station_clean, world_of}
 use Rattle.x12_world.specs.Submission.{AreListed}
 
 -- what is seen of a network with these hubs, stations and packets
@@ -18,6 +18,7 @@ abbrev pub running : {H R : Type 0} → CodeHubs H → List (StationView R)
 running h ss held = record {
   world = world_of h ss held;
   answers = answering h ss;
+  clean = clean_beside h (station_clean ss);
   failures = failures_of h ss;
 }
 

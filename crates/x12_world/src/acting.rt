@@ -5,9 +5,10 @@ ghost use Rattle.x12_profile.specs.X12.{x12};
 ghost use Rattle.x12_world.specs.Asking.{states_of};
 ghost use Rattle.x12_world.specs.EventRefusal.{network_refusal};
 ghost use Rattle.x12_world.specs.EventView.{event_view};
+ghost use Rattle.x12_world.specs.Disks.{disks_beside, station_disks, KeepsEach};
 ghost use Rattle.x12_world.specs.Failing.{failures_of, CountsOne};
 ghost use Rattle.x12_world.specs.Refusing.{IsNetworkRefusal};
-ghost use Rattle.x12_world.specs.Running.{AskedAnswers, NoneWonBack, answering, hubs_in};
+ghost use Rattle.x12_world.specs.Running.{AskedAnswers, hubs_in};
 ghost use Rattle.x12_world.specs.Running.{nodes_answer, nodes_of, world_of};
 ghost use Rattle.x12_world.specs.Runs.{running};
 ghost use Rattle.x12_core.specs.Sends.{sends_view};
@@ -38,8 +39,6 @@ pub(crate) fn act<R: Records, H: HubRecords>(
 ) -> Result<Sends, Refused>
     requires admitted { (vec_len stations.old ≤ 16) × (network_refusal x12
         (world_of hubs.old stations.old.items held.now.items) (event_view event.now) ≡ None) }
-    ensures never_won_back { NoneWonBack
-        (answering hubs.old stations.old.items) (answering hubs.new stations.new.items) }
     ensures took { AskedAnswers (world_of hubs.old stations.old.items held.now.items)
         (event_view event.now) (running hubs.new stations.new.items held.now.items) →
         IfOk result (λ sends. IsTaken
@@ -57,6 +56,8 @@ pub(crate) fn act<R: Records, H: HubRecords>(
         ≡ nodes_of (hubs_in hubs.old) stations.old.items) }
     ensures store { CountsOne result
         (failures_of hubs.old stations.old.items) (failures_of hubs.new stations.new.items) }
+    ensures disks { KeepsEach result (disks_beside hubs.old (station_disks stations.old.items))
+        (disks_beside hubs.new (station_disks stations.new.items)) }
     ensures len { length stations.new.items ≡ length stations.old.items }
 {
     let Some((node, ask)) = asked(held, event) else {

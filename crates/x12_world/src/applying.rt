@@ -4,12 +4,13 @@ ghost use Rattle.std.specs.Prelude.{◌≡◌, ◌+◌, ◌<◌, ◌≤◌, ◌+
 ghost use Rattle.std.specs.Prelude.{vec_len, vec_capacity, if◌then◌else◌};
 ghost use Rattle.x12_world.specs.Asking.{states_of};
 ghost use Rattle.x12_world.specs.EventView.{event_view};
+ghost use Rattle.x12_world.specs.Disks.{disks_beside, station_disks, KeepsEach};
 ghost use Rattle.x12_world.specs.Failing.{failures_of, CountsOne};
 ghost use Rattle.x12_world.specs.Outcome.{told_packet};
 ghost use Rattle.x12_world.specs.Packet.{named};
 ghost use Rattle.x12_world.specs.Ran.{Ran, outcome_view};
 ghost use Rattle.x12_world.specs.Refusing.{IsNetworkRefusal};
-ghost use Rattle.x12_world.specs.Running.{AskedAnswers, NoneWonBack, answering, nodes_answer};
+ghost use Rattle.x12_world.specs.Running.{AskedAnswers, nodes_answer};
 ghost use Rattle.x12_world.specs.Running.{world_of};
 ghost use Rattle.x12_world.specs.Runs.{running};
 ghost use Rattle.x12_core.specs.Sends.{sends_view};
@@ -89,8 +90,6 @@ pub(crate) fn take<R: Records, H: HubRecords>(
     event: &Event,
 ) -> Result<Outcome, Refused>
     requires few { vec_len stations.old ≤ 16 }
-    ensures never_won_back { NoneWonBack
-        (answering hubs.old stations.old.items) (answering hubs.new stations.new.items) }
     ensures ran { AskedAnswers (world_of hubs.old stations.old.items held.old.items)
         (event_view event.now) (running hubs.new stations.new.items held.new.items) →
         IfOk result (λ o. Ran
@@ -109,6 +108,8 @@ pub(crate) fn take<R: Records, H: HubRecords>(
         AreListed (states_of stations.new.items) submitted.new.items }
     ensures store { CountsOne result
         (failures_of hubs.old stations.old.items) (failures_of hubs.new stations.new.items) }
+    ensures disks { KeepsEach result (disks_beside hubs.old (station_disks stations.old.items))
+        (disks_beside hubs.new (station_disks stations.new.items)) }
     ensures len { length stations.new.items ≡ length stations.old.items }
 {
     let number = admit(hubs, stations, held, event)?;

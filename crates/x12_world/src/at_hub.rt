@@ -1,15 +1,15 @@
 //! What a hub of a network is asked.
 
-ghost use Rattle.std.specs.Prelude.{◌≡◌, ℕ, Bool, List, [], IsTrue, IfOk, IfErr, OnErr, is_some, true};
+ghost use Rattle.std.specs.Prelude.{◌≡◌, ℕ, List, [], IsTrue, IfOk, IfErr, OnErr, is_some, length, true};
 ghost use Rattle.x12_core.specs.Node.{Node};
 ghost use Rattle.x12_core.specs.Sends.{sends_view};
 ghost use Rattle.x12_core.specs.Submission.{listed};
 ghost use Rattle.x12_core.specs.View.{ref_view};
 ghost use Rattle.x12_world.specs.Asks.{IsAsked, IsAskedInVain};
+ghost use Rattle.x12_world.specs.Disks.{disks_beside, Disks, KeepsEach};
 ghost use Rattle.x12_world.specs.Failing.{CountsAsked, failures_beside};
 ghost use Rattle.x12_world.specs.Nodes.{is_hub_number};
-ghost use Rattle.x12_world.specs.Running.{NoneWonBack, answers_beside, beside, hub_answers};
-ghost use Rattle.x12_world.specs.Running.{hubs_in};
+ghost use Rattle.x12_world.specs.Running.{beside, hub_answers, hubs_in};
 
 use crate::hubs::Hubs;
 use x12_core::{AskRef, CoreFault, HUB_NODE, Sends, Site, ask_hub};
@@ -22,8 +22,6 @@ pub(crate) fn at_hub<H: HubRecords>(
     ask: &AskRef<'_>,
 ) -> Result<Sends, CoreFault>
     requires there { is_hub_number (is_some hubs.old.second) site.node ≡ true }
-    ensures never_won_back { (bs : List Bool) →
-        NoneWonBack (answers_beside hubs.old bs) (answers_beside hubs.new bs) }
     ensures took { IsTrue (hub_answers hubs.new site.node) → IfOk result (λ sends. (ns : List Node) →
         IsAsked (ref_view ask.now) site (beside (hubs_in hubs.old) ns)
         (beside (hubs_in hubs.new) ns) (sends_view sends)) }
@@ -35,6 +33,8 @@ pub(crate) fn at_hub<H: HubRecords>(
     ensures second { is_some hubs.new.second ≡ is_some hubs.old.second }
     ensures store { (fs : List ℕ) → CountsAsked result
         (failures_beside hubs.old fs) (failures_beside hubs.new fs) }
+    ensures disks { (d : Disks) → length d.answers ≡ length d.clean →
+        KeepsEach result (disks_beside hubs.old d) (disks_beside hubs.new d) }
 {
     if site.node == HUB_NODE {
         return ask_hub(&mut hubs.first, site, ask);

@@ -3,9 +3,10 @@
 ghost use Rattle.std.specs.Prelude.{◌≡◌, ◌≤◌, IsTrue, IfOk, IfErr, OnErr, length, vec_len};
 ghost use Rattle.x12_world.specs.Asking.{states_of};
 ghost use Rattle.x12_world.specs.Asks.{IsAsked, IsAskedInVain};
+ghost use Rattle.x12_world.specs.Disks.{station_disks, KeepsEach};
 ghost use Rattle.x12_world.specs.Failing.{station_failures, CountsAsked};
-ghost use Rattle.x12_world.specs.Running.{HasNumbers, Hubs, NoneWonBack, nodes_of};
-ghost use Rattle.x12_world.specs.Running.{station_answers, station_answers_at, station_nodes};
+ghost use Rattle.x12_world.specs.Running.{HasNumbers, Hubs, nodes_of};
+ghost use Rattle.x12_world.specs.Running.{station_answers_at, station_nodes};
 ghost use Rattle.x12_core.specs.Sends.{sends_view};
 ghost use Rattle.x12_core.specs.Submission.{listed};
 ghost use Rattle.x12_core.specs.View.{ref_view};
@@ -23,7 +24,6 @@ pub(crate) fn at_station<R: Records>(
     ask: &AskRef<'_>,
 ) -> Result<Sends, CoreFault>
     requires there { (1 ≤ site.node) × (site.node ≤ vec_len stations.old) }
-    ensures never_won_back { NoneWonBack (station_answers stations.old.items) (station_answers stations.new.items) }
     ensures took { IsTrue (station_answers_at stations.new.items site.node) →
         IfOk result (λ sends. (h : Hubs) → HasNumbers h stations.old.items →
         IsAsked (ref_view ask.now) site
@@ -37,6 +37,8 @@ pub(crate) fn at_station<R: Records>(
         OnErr result (station_nodes stations.new.items ≡ station_nodes stations.old.items) }
     ensures store { CountsAsked result
         (station_failures stations.old.items) (station_failures stations.new.items) }
+    ensures disks { KeepsEach result
+        (station_disks stations.old.items) (station_disks stations.new.items) }
     ensures len { length stations.new.items ≡ length stations.old.items }
 {
     let station = &mut stations[site.node as usize - 1];

@@ -13,7 +13,7 @@ ghost use Rattle.x12_world.specs.Founding.{all_differ, home_among, parties, IsMe
 ghost use Rattle.x12_world.specs.Founding.{network_of, IsNewHub};
 ghost use Rattle.x12_world.specs.Reach.{IsReachable};
 ghost use Rattle.x12_world.specs.Run.{new_world};
-ghost use Rattle.x12_world.specs.Running.{AllAnswer, all_answer, founders_answer, founders_answers};
+ghost use Rattle.x12_world.specs.Running.{AllAnswer, all_answer, founders_answer, founders_answers, founders_clean};
 ghost use Rattle.x12_world.specs.Running.{second_answers};
 
 use crate::admitting::is_stations;
@@ -217,6 +217,7 @@ impl<R: Records, H: HubRecords> World<R, H> {
     ) -> Result<World<R, H>, (Hub<H>, Option<Hub<H>>, Vec<Station<R>>, Refused)>
         ensures answers { IfOk result (λ w.
             w.answers ≡ founders_answers hub second stations.items) }
+        ensures clean { IfOk result (λ w. w.clean ≡ founders_clean hub second stations.items) }
         ensures new { IfOk result (λ w. AllAnswer w → w.world
             ≡ new_world (network_of hub.hub (option_map (λ k. k.hub) second) stations.items)) }
         ensures reached { IfOk result (λ w. AllAnswer w → IsReachable x12 w.world) }

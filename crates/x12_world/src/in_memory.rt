@@ -5,9 +5,8 @@ ghost use Rattle.x12_profile.specs.X12.{x12};
 ghost use Rattle.x12_world.specs.EventView.{event_view};
 ghost use Rattle.x12_world.specs.Headline.{Headline};
 ghost use Rattle.x12_world.specs.Loss.{Happening, run_so};
-ghost use Rattle.x12_world.specs.Outsider.{OutsidersMoveNothing};
 ghost use Rattle.x12_world.specs.Ran.{RanAll, StoppedAt, outcome_view};
-ghost use Rattle.x12_world.specs.Reach.{Onward, AlwaysFollows, OfBoth, ReachedFacts};
+ghost use Rattle.x12_world.specs.Reach.{HoldsOnward, OfBoth};
 ghost use Rattle.x12_world.specs.Running.{AllAnswer, all_answer};
 
 use crate::event::Event;
@@ -66,10 +65,7 @@ pub fn run_in_memory(
     ensures headline { Headline x12 network.old.world network.new.world
         × ((more : List Happening) →
         Headline x12 network.new.world (run_so x12 more network.new.world)) }
-    ensures refines { OfBoth (AlwaysFollows x12) network.old.world network.new.world }
-    ensures outsiders { OfBoth
-        (Onward x12 (OutsidersMoveNothing x12)) network.old.world network.new.world }
-    ensures facts { OfBoth (Onward x12 (ReachedFacts x12)) network.old.world network.new.world }
+    ensures onward { OfBoth HoldsOnward network.old.world network.new.world }
 {
     let told = network.run(events);
     // law: the network's records answer

@@ -2,14 +2,14 @@
 
 ghost use Rattle.std.specs.Prelude.{◌≡◌, IfOk, IfErr, OnOk, List, map};
 ghost use Rattle.x12_profile.specs.X12.{x12};
+ghost use Rattle.x12_world.specs.Disks.{disks_of, AllClean, KeepsEach};
 ghost use Rattle.x12_world.specs.Failing.{SaysOneFailed};
 ghost use Rattle.x12_world.specs.EventView.{event_view};
 ghost use Rattle.x12_world.specs.Headline.{Headline};
 ghost use Rattle.x12_world.specs.Loss.{Happening, run_so};
-ghost use Rattle.x12_world.specs.Outsider.{OutsidersMoveNothing};
 ghost use Rattle.x12_world.specs.Ran.{RanAll, StoppedAt, outcome_view};
-ghost use Rattle.x12_world.specs.Reach.{Onward, AlwaysFollows, OfBoth, ReachedFacts};
-ghost use Rattle.x12_world.specs.Running.{AllAnswer, NoneWonBack};
+ghost use Rattle.x12_world.specs.Reach.{HoldsOnward, OfBoth};
+ghost use Rattle.x12_world.specs.Running.{AllAnswer};
 
 use crate::event::Event;
 use crate::outcome::Outcome;
@@ -28,7 +28,8 @@ impl<R: Records, H: HubRecords> World<R, H> {
     /// a final fate never changes; and once the sender has handled its interchange's kept
     /// acknowledgment, no set of it is pending.
     pub fn run(&mut self, events: &[Event]) -> Result<Vec<Outcome>, (usize, Refused)>
-        ensures never_won_back { NoneWonBack self.old.answers self.new.answers }
+        // of each node: over a disk that returned what was written an Ok keeps records answering
+        ensures disks { KeepsEach result (disks_of self.old) (disks_of self.new) }
         ensures ran { AllAnswer self.new → IfOk result (λ os. RanAll self.old.world
             (map event_view events.now) (map outcome_view os.items) self.new.world) }
         ensures stopped { AllAnswer self.new → IfErr result (λ e.
@@ -41,12 +42,10 @@ impl<R: Records, H: HubRecords> World<R, H> {
         ensures headline { AllAnswer self.new → Headline x12 self.old.world self.new.world
             × ((more : List Happening) →
             Headline x12 self.new.world (run_so x12 more self.new.world)) }
-        ensures refines { AllAnswer self.new →
-            OfBoth (AlwaysFollows x12) self.old.world self.new.world }
-        ensures outsiders { AllAnswer self.new → OfBoth
-            (Onward x12 (OutsidersMoveNothing x12)) self.old.world self.new.world }
-        ensures facts { AllAnswer self.new → OfBoth
-            (Onward x12 (ReachedFacts x12)) self.old.world self.new.world }
+        ensures onward { AllAnswer self.new → OfBoth HoldsOnward self.old.world self.new.world }
+        // the same of the world before, whatever the run came to
+        ensures before { AllAnswer self.old → HoldsOnward self.old.world }
+        ensures whole { AllAnswer self.old → AllClean self.new → OnOk result (AllAnswer self.new) }
     {
         // law: what holds of each world that a network can reach
         crate::x12::reached();

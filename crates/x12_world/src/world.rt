@@ -3,13 +3,15 @@
 ghost use Rattle.std.specs.Prelude.{◌≡◌, List, ℕ, IfOk, IfErr, OnErr, option_map};
 ghost use Rattle.std.specs.Option.{option_copied};
 ghost use Rattle.x12_profile.specs.X12.{x12};
+ghost use Rattle.x12_world.specs.Disks.{disks_of, KeepsEach};
 ghost use Rattle.x12_world.specs.EventView.{event_view};
 ghost use Rattle.x12_world.specs.Failing.{CountsOne};
 ghost use Rattle.x12_world.specs.Packet.{packet_of};
 ghost use Rattle.x12_world.specs.Ran.{Ran, outcome_view};
 ghost use Rattle.x12_world.specs.Reach.{IsReachable};
 ghost use Rattle.x12_world.specs.Refusing.{IsNetworkRefusal};
-ghost use Rattle.x12_world.specs.Running.{AllAnswer, AskedAnswers, NoneWonBack, founders_answers};
+ghost use Rattle.x12_world.specs.Running.{AllAnswer, AskedAnswers, NoneWonBack};
+ghost use Rattle.x12_world.specs.Running.{founders_answers, founders_clean};
 ghost use Rattle.x12_world.specs.Running.{nodes_of};
 ghost use Rattle.x12_core.specs.View.{name_view, packet_view};
 
@@ -65,6 +67,8 @@ impl<R: Records, H: HubRecords> World<R, H> {
         ensures unchanged { AskedAnswers self.old.world (event_view event.now) self.new →
             OnErr result (self.new.world ≡ self.old.world) }
         ensures store { CountsOne result self.old.failures self.new.failures }
+        // of each node: over a disk that returned what was written an Ok keeps records answering
+        ensures disks { KeepsEach result (disks_of self.old) (disks_of self.new) }
     {
         // law: what holds of each world that a network can reach
         crate::x12::reached();
@@ -89,6 +93,7 @@ impl<R: Records, H: HubRecords> World<R, H> {
     /// Ends the network: its hub, its second hub, if it has one, and its stations come back as they are.
     pub fn end(self) -> (Hub<H>, Option<Hub<H>>, Vec<Station<R>>)
         ensures answers { founders_answers result.0 result.1 result.2.items ≡ self.answers }
+        ensures clean { founders_clean result.0 result.1 result.2.items ≡ self.clean }
         ensures nodes { (homes : List ℕ) × (self.world.nodes ≡ nodes_of (record {
           first = result.0.hub;
           second = option_map (λ k. k.hub) result.1;

@@ -14,7 +14,9 @@ use Rattle.x12_world.specs.Refusing.{IsNetworkRefusal}
 use Rattle.x12_world.specs.Running.{beside, hubs_in, nodes_of, station_answers, station_nodes, world_of}
 use Rattle.x12_world.specs.Runs.{running}
 use Rattle.x12_world.proofs.ActingLemmas.{fits_there, hub_so, refused, station_so, told_so, took}
-use Rattle.x12_world.proofs.AnswerLemmas.{asked_of_all, won_stations}
+use Rattle.x12_world.proofs.AnswerLemmas.{asked_of_all}
+use Rattle.x12_world.specs.Disks.{disks_beside, station_disks}
+use Rattle.x12_world.proofs.DisksLemmas.{both_counted, each_handed, each_stations, each_refused}
 use Rattle.x12_world.proofs.FailingLemmas.{asked_beside, asked_handed}
 use Rattle.x12_world.proofs.RunningLemmas.{few_numbers, second_kept, station_meant}
 use Rattle.x12_world.proofs.acting.act.Goals as goal
@@ -144,13 +146,6 @@ returns-in_err-at_station-clause-unchanged g c = λ answers.
     let there = station_so hubs ss new held e a is isnt number.0 high answers c.site-site.result.node c.site-site.ensures.node in
     stays c.from_residual-in_err-at_station.result (ap (beside (hubs_in hubs)) (c.in_err-at_station.ensures.unchanged there))
 
-pub returns-clause-never_won_back : goal.returns-clause-never_won_back
-returns-clause-never_won_back g c =
-    let ss = c.args.stations.now.items in
-    let new = c.at_station.new.stations.items in
-    won_stations c.args.hubs.now (station_answers ss) (station_answers new)
-    (length-map ss (λ (s : StationView _). s.answers) ∙ sym c.at_station.ensures.len ∙ sym (length-map new (λ (s : StationView _). s.answers))) c.at_station.ensures.never_won_back
-
 pub at_station-requires : goal.at_station-requires
 at_station-requires g c =
     let hubs = c.args.hubs.now in
@@ -170,3 +165,22 @@ pub returns-in_err-at_station-clause-store : goal.returns-in_err-at_station-clau
 returns-in_err-at_station-clause-store g c =
     asked_handed c.from_residual-in_err-at_station.result c.in_err-at_station.field-0.0 _ _ c.from_residual-in_err-at_station.ensures.1
     (asked_beside _ c.args.hubs.now c.args.stations.now.items c.at_station.new.stations.items c.in_err-at_station.ensures.store)
+
+pub returns-then-have-clause-disks : goal.returns-then-have-clause-disks
+returns-then-have-clause-disks g c =
+    let ss = c.args.stations.now.items in
+    each_handed _ _ (disks_beside c.args.hubs.now (station_disks ss)) (disks_beside c.at_hub.new.hubs (station_disks ss)) (λ P p. p) (c.in_ok-at_hub.ensures.disks (station_disks ss) (both_counted ss))
+
+pub returns-in_err-at_hub-clause-disks : goal.returns-in_err-at_hub-clause-disks
+returns-in_err-at_hub-clause-disks g c =
+    let ss = c.args.stations.now.items in
+    each_refused c.from_residual.result _ (disks_beside c.args.hubs.now (station_disks ss)) (disks_beside c.at_hub.new.hubs (station_disks ss)) _ c.from_residual.ensures.1 (c.in_err-at_hub.ensures.disks (station_disks ss) (both_counted ss))
+
+pub returns-clause-disks : goal.returns-clause-disks
+returns-clause-disks g c =
+    each_handed _ _ (disks_beside c.args.hubs.now (station_disks c.args.stations.now.items)) (disks_beside c.args.hubs.now (station_disks c.at_station.new.stations.items)) (λ P p. p) (each_stations _ c.args.hubs.now c.args.stations.now.items c.at_station.new.stations.items c.at_station.ensures.len c.in_ok-at_station.ensures.disks)
+
+pub returns-in_err-at_station-clause-disks : goal.returns-in_err-at_station-clause-disks
+returns-in_err-at_station-clause-disks g c =
+    each_refused c.from_residual-in_err-at_station.result _ (disks_beside c.args.hubs.now (station_disks c.args.stations.now.items)) (disks_beside c.args.hubs.now (station_disks c.at_station.new.stations.items)) _ c.from_residual-in_err-at_station.ensures.1
+    (each_stations _ c.args.hubs.now c.args.stations.now.items c.at_station.new.stations.items c.at_station.ensures.len c.in_err-at_station.ensures.disks)

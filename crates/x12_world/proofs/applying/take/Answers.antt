@@ -13,6 +13,8 @@ use Rattle.x12_world.proofs.AnswerLemmas.{asked_of_all}
 use Rattle.x12_core.specs.Sends.{sends_view}
 use Rattle.x12_world.specs.Taking.{IsTaken}
 use Rattle.x12_world.specs.View.{held_view}
+use Rattle.x12_world.specs.Disks.{disks_beside, station_disks}
+use Rattle.x12_world.proofs.DisksLemmas.{each_handed, each_refused}
 use Rattle.x12_world.proofs.RanLemmas.{ran}
 use Rattle.x12_world.proofs.SubmissionLemmas.{still_listed}
 use Rattle.x12_world.proofs.applying.take.Goals as goal
@@ -42,3 +44,10 @@ returns-in_err-sends-clause-listed g c = λ all.
     let asked = asked_of_all now all (asked_by now.world.packets (event_view c.args.event.now)) in
     still_listed (hubs_in c.args.hubs.now) (hubs_in c.act.new.hubs) c.args.stations.now.items c.act.new.stations.items c.args.submitted.now.items c.reserve-2.new.self.items
     (c.in_err-sends.ensures.unchanged asked) c.in_ok-reserve-2.ensures.items
+
+pub returns-in_err-sends-clause-disks : goal.returns-in_err-sends-clause-disks
+returns-in_err-sends-clause-disks g c =
+    each_refused c.from_residual-in_err-sends.result _ (disks_beside c.args.hubs.now (station_disks c.args.stations.now.items)) (disks_beside c.act.new.hubs (station_disks c.act.new.stations.items)) _ c.from_residual-in_err-sends.ensures.1 c.in_err-sends.ensures.disks
+
+pub returns-clause-disks : goal.returns-clause-disks
+returns-clause-disks g c = each_handed _ _ (disks_beside c.args.hubs.now (station_disks c.args.stations.now.items)) (disks_beside c.act.new.hubs (station_disks c.act.new.stations.items)) (λ P p. p) c.in_ok-sends.ensures.disks

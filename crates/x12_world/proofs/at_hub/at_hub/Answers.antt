@@ -1,8 +1,10 @@
--- What was counted at the first hub, or at the second; and no records are won back there.
-use Rattle.x12_world.proofs.AnswerLemmas.{won_first, won_last}
+-- What was counted at the first hub, or at the second.
 use Rattle.x12_world.proofs.FailingLemmas.{asked_first, asked_second}
-use Rattle.std.proofs.Common.{◌∷◌, ◌++◌, refl, Some, map, subst, sym}
-use Rattle.x12_world.specs.Running.{NoneWonBack, founders_beside}
+use Rattle.std.proofs.Common.{◌++◌, refl, Some, map, subst, sym}
+use Rattle.x12_core.specs.Disk.{hub_disk}
+use Rattle.x12_world.specs.Disks.{KeepsEach}
+use Rattle.x12_world.specs.Running.{founders_beside, founders_clean_beside}
+use Rattle.x12_world.proofs.DisksLemmas.{each_first, each_second}
 use Rattle.std.specs.Prelude.{option_to_list}
 use Rattle.x12_world.proofs.at_hub.at_hub.Goals as goal
 
@@ -14,17 +16,20 @@ pub returns-in-Some-clause-store : goal.returns-in-Some-clause-store
 returns-in-Some-clause-store g c = λ fs.
     asked_second c.ask_hub-in-Some.result c.args.hubs.now (record c.args.hubs.now { second = Some c.ask_hub-in-Some.new.hub }) fs c.in-Some.hub c.ask_hub-in-Some.new.hub c.in-Some.is refl refl c.ask_hub-in-Some.ensures.store
 
-pub returns-then-site-eq-HUB_NODE-clause-never_won_back : goal.returns-then-site-eq-HUB_NODE-clause-never_won_back
-returns-then-site-eq-HUB_NODE-clause-never_won_back g c = λ bs.
-    won_first c.args.hubs.now.first.answers c.ask_hub.new.hub.answers (bs ++ map (λ k. k.answers) (option_to_list c.args.hubs.now.second)) c.ask_hub.ensures.disk.never_won_back
-
-pub returns-in-Some-clause-never_won_back : goal.returns-in-Some-clause-never_won_back
-returns-in-Some-clause-never_won_back g c =
-    λ bs. subst (λ o. NoneWonBack (founders_beside c.args.hubs.now.first o bs) (founders_beside c.args.hubs.now.first (Some c.ask_hub-in-Some.new.hub) bs)) (sym c.in-Some.is)
-    (won_last (c.args.hubs.now.first.answers ∷ bs) c.in-Some.hub.answers c.ask_hub-in-Some.new.hub.answers c.ask_hub-in-Some.ensures.disk.never_won_back)
-
 pub returns-then-site-eq-HUB_NODE-clause-submits : goal.returns-then-site-eq-HUB_NODE-clause-submits
 returns-then-site-eq-HUB_NODE-clause-submits g c = c.ask_hub.ensures.nothing.submits
 
 pub returns-in-Some-clause-submits : goal.returns-in-Some-clause-submits
 returns-in-Some-clause-submits g c = c.ask_hub-in-Some.ensures.nothing.submits
+
+pub returns-then-site-eq-HUB_NODE-clause-disks : goal.returns-then-site-eq-HUB_NODE-clause-disks
+returns-then-site-eq-HUB_NODE-clause-disks g c = λ d same.
+    let more = option_to_list c.args.hubs.now.second in
+    each_first c.ask_hub.result (hub_disk c.args.hubs.now.first) (hub_disk c.ask_hub.new.hub) (d.answers ++ map (λ k. k.answers) more) (d.clean ++ map (λ k. k.clean) more) c.ask_hub.ensures.disk
+
+pub returns-in-Some-clause-disks : goal.returns-in-Some-clause-disks
+returns-in-Some-clause-disks g c = λ d same.
+    let first = c.args.hubs.now.first in
+    let new = Some c.ask_hub-in-Some.new.hub in
+    subst (λ o. KeepsEach c.ask_hub-in-Some.result (record { answers = founders_beside first o d.answers; clean = founders_clean_beside first o d.clean }) (record { answers = founders_beside first new d.answers; clean = founders_clean_beside first new d.clean })) (sym c.in-Some.is)
+    (each_second c.ask_hub-in-Some.result first c.in-Some.hub c.ask_hub-in-Some.new.hub d same c.ask_hub-in-Some.ensures.disk)

@@ -3,22 +3,14 @@ use Rattle.std.proofs.Common.{◌≡◌, ◌-◌, ◌+◌, ◌<◌, ◌≤◌, l
 use Rattle.x12_world.specs.Running.{HasNumbers, Hubs}
 use Rattle.x12_core.specs.Sends.{sends_view}
 use Rattle.x12_core.specs.View.{ref_view}
+use Rattle.x12_world.proofs.DisksLemmas.{each_among}
 use Rattle.x12_world.proofs.FailingLemmas.{asked_among}
-use Rattle.x12_world.proofs.AnswerLemmas.{set_answers, won_among}
+use Rattle.x12_world.proofs.AnswerLemmas.{set_answers}
 use Rattle.x12_world.proofs.RunningLemmas.{asked, asked_in_vain, stations_kept, if_err, on_err}
 use Rattle.std.proofs.lemmas.Result.{IfOk-weaker}
 use Rattle.x12_core.specs.Submission.{listed}
 use Rattle.x12_world.proofs.SubmissionLemmas.{station_lists}
 use Rattle.x12_world.proofs.at_station.at_station.Goals as goal
-
-pub returns-clause-never_won_back : goal.returns-clause-never_won_back
-returns-clause-never_won_back g c =
-    let ss = c.args.stations.now in
-    let i = c.args.site.node - 1 in
-    let old = c.index_mut-station.result.now in
-    let new = c.ask_station.new.station in
-    let within : i < length ss.items = let e = ss.ok.0 in let low = c.requires.there.0 in let high = c.requires.there.1 in omega arith in
-    won_among ss.items i old new within c.index_mut-station.ensures.value c.ask_station.ensures.disk.never_won_back
 
 pub returns-clause-took : goal.returns-clause-took
 returns-clause-took g c = λ answers.
@@ -68,3 +60,9 @@ returns-clause-store g c =
     let ss = c.args.stations.now in
     let within : c.args.site.node - 1 < length ss.items = let e = ss.ok.0 in let low = c.requires.there.0 in let high = c.requires.there.1 in omega arith in
     asked_among c.ask_station.result ss.items (c.args.site.node - 1) c.index_mut-station.result.now c.ask_station.new.station within c.index_mut-station.ensures.value c.ask_station.ensures.store
+
+pub returns-clause-disks : goal.returns-clause-disks
+returns-clause-disks g c =
+    let ss = c.args.stations.now in
+    let within : c.args.site.node - 1 < length ss.items = let e = ss.ok.0 in let low = c.requires.there.0 in let high = c.requires.there.1 in omega arith in
+    each_among c.ask_station.result ss.items (c.args.site.node - 1) c.index_mut-station.result.now c.ask_station.new.station within c.index_mut-station.ensures.value c.ask_station.ensures.disk

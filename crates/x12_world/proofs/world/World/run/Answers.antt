@@ -1,5 +1,5 @@
 -- Each event was taken where those before it left the network, which stays one that was reached.
-use Rattle.std.proofs.Common.{◌≡◌, ◌≤◌, ◌<◌, ◌+◌, ◌++◌, ◌∷◌, [], ℕ, List, length, map, take, get_or, sym, subst, ap, ◌∙◌, arith}
+use Rattle.std.proofs.Common.{◌≡◌, ◌≤◌, ◌<◌, ◌+◌, ◌++◌, ◌∷◌, [], ℕ, List, Ok, length, map, take, get_or, sym, subst, ap, ◌∙◌, arith}
 use Rattle.std.proofs.lemmas.List.{get_or-map, length-map, map-append, take_all, take_more}
 use Rattle.x12_profile.specs.X12.{x12}
 use Rattle.x12_world.specs.EventView.{event_view}
@@ -11,7 +11,9 @@ use Rattle.x12_world.specs.Effect.{asked_by}
 use Rattle.x12_world.specs.Running.{AllAnswer, Running}
 use Rattle.x12_world.proofs.AnswerLemmas.{all_back, asked_of_all}
 use Rattle.x12_world.specs.World.{Event}
-use Rattle.x12_world.proofs.RanLemmas.{by_run, each_more, facts_later, headline_both, reached_run, stopped}
+use Rattle.x12_world.specs.Disks.{disks_of}
+use Rattle.x12_world.proofs.DisksLemmas.{all_still, each_handed, each_then}
+use Rattle.x12_world.proofs.RanLemmas.{by_run, each_more, headline_both, onward_of, reached_run, stopped}
 use Rattle.x12_world.proofs.world.World.run.Goals as goal
 use Rattle.x12_numbers.proofs.Shelf.{mapped_at}
 
@@ -56,36 +58,9 @@ returns-in-Err-clause-headline g c = λ answers.
     let w = c.args.self.now.world in
     let new = c.apply.new.self.world in
     let before = all_back at.self.answers c.apply.new.self.answers c.in-Err.ensures.never_won_back answers in
-    let reach = subst (λ (v : Running). AllAnswer v → IsReachable x12 v.world) c.self.view_is c.self.invariant.reached (all_back c.args.self.now.answers at.self.answers at.invariant.never_won_back before) in
+    let reach = subst (λ (v : Running). AllAnswer v → IsReachable x12 v.world) c.self.view_is c.self.invariant.reached (all_back c.args.self.now.answers at.self.answers (λ k. (at.invariant.disks k).never_won_back) before) in
     headline_both c.reached.ensures.reached w new (take at.place es) os reach
     (subst (EachRan w (take at.place es) os) (sym (c.in-Err.ensures.unchanged (asked_of_all c.apply.new.self answers (asked_by at.self.world.packets (event_view c.event-item.result))))) (at.invariant.each before))
-
-pub returns-in-Err-clause-refines : goal.returns-in-Err-clause-refines
-returns-in-Err-clause-refines g c = λ answers.
-    let at = c.loop-event in
-    let laws = c.reached.ensures.reached in
-    let w = c.args.self.now.world in
-    let before = all_back at.self.answers c.apply.new.self.answers c.in-Err.ensures.never_won_back answers in
-    let reach = subst (λ (v : Running). AllAnswer v → IsReachable x12 v.world) c.self.view_is c.self.invariant.reached (all_back c.args.self.now.answers at.self.answers at.invariant.never_won_back before) in
-    (laws.refines w reach, laws.refines c.apply.new.self.world (c.in-Err.ensures.reached answers))
-
-pub returns-in-Err-clause-outsiders : goal.returns-in-Err-clause-outsiders
-returns-in-Err-clause-outsiders g c = λ answers.
-    let at = c.loop-event in
-    let laws = c.reached.ensures.reached in
-    let w = c.args.self.now.world in
-    let before = all_back at.self.answers c.apply.new.self.answers c.in-Err.ensures.never_won_back answers in
-    let reach = subst (λ (v : Running). AllAnswer v → IsReachable x12 v.world) c.self.view_is c.self.invariant.reached (all_back c.args.self.now.answers at.self.answers at.invariant.never_won_back before) in
-    (λ more. (facts_later laws w reach more).outsiders, λ more. (facts_later laws c.apply.new.self.world (c.in-Err.ensures.reached answers) more).outsiders)
-
-pub returns-in-Err-clause-facts : goal.returns-in-Err-clause-facts
-returns-in-Err-clause-facts g c = λ answers.
-    let at = c.loop-event in
-    let laws = c.reached.ensures.reached in
-    let w = c.args.self.now.world in
-    let before = all_back at.self.answers c.apply.new.self.answers c.in-Err.ensures.never_won_back answers in
-    let reach = subst (λ (v : Running). AllAnswer v → IsReachable x12 v.world) c.self.view_is c.self.invariant.reached (all_back c.args.self.now.answers at.self.answers at.invariant.never_won_back before) in
-    (facts_later laws w reach, facts_later laws c.apply.new.self.world (c.in-Err.ensures.reached answers))
 
 pub loop-event-preserved : goal.loop-event-preserved
 loop-event-preserved g c =
@@ -103,7 +78,7 @@ loop-event-preserved g c =
     let is : item ≡ get_or events place item = subst (λ k. item ≡ get_or events k item) (sym at.invariant.place) c.event-item.is in
     let told : map outcome_view c.push_reserved.new.self.items ≡ map outcome_view os ++ outcome_view outcome ∷ [] = ap (map outcome_view) c.push_reserved.ensures.items ∙ map-append outcome_view os (outcome ∷ []) in
     record {
-      never_won_back = λ k e. at.invariant.never_won_back k (c.in-Ok-apply.ensures.never_won_back k e);
+      disks = each_then (Ok tt) tt (disks_of c.args.self.now) (disks_of c.loop-event.self) (disks_of c.apply.new.self) at.invariant.disks (each_handed (Ok tt) _ (disks_of c.loop-event.self) (disks_of c.apply.new.self) (λ P p. p) c.in-Ok-apply.ensures.disks);
       each = λ answers.
           subst (λ (xs : List EventOutcome). EachRan w (take (place + 1) es) xs new) (sym told)
           (subst (λ (xs : List Event). EachRan w xs (map outcome_view os ++ outcome_view outcome ∷ []) new) (sym (one_taken event_view events place item lt is))
@@ -130,34 +105,48 @@ returns-clause-headline g c = λ answers.
     let at = c.loop-event in
     let es = map event_view c.args.events.now in
     let w = c.args.self.now.world in
-    let reach = subst (λ (v : Running). AllAnswer v → IsReachable x12 v.world) c.self.view_is c.self.invariant.reached (all_back c.args.self.now.answers at.self.answers at.invariant.never_won_back answers) in
+    let reach = subst (λ (v : Running). AllAnswer v → IsReachable x12 v.world) c.self.view_is c.self.invariant.reached (all_back c.args.self.now.answers at.self.answers (λ k. (at.invariant.disks k).never_won_back) answers) in
     headline_both c.reached.ensures.reached w at.self.world (take at.place es) (map outcome_view at.outcomes.items) reach (at.invariant.each answers)
 
-pub returns-clause-refines : goal.returns-clause-refines
-returns-clause-refines g c = λ answers.
-    let at = c.loop-event in
-    let es = map event_view c.args.events.now in
+pub returns-in_default-clause-onward : goal.returns-in_default-clause-onward
+returns-in_default-clause-onward g c = λ answers.
     let w = c.args.self.now.world in
-    let laws = c.reached.ensures.reached in
-    let reach = subst (λ (v : Running). AllAnswer v → IsReachable x12 v.world) c.self.view_is c.self.invariant.reached (all_back c.args.self.now.answers at.self.answers at.invariant.never_won_back answers) in
-    (laws.refines w reach, laws.refines at.self.world (reached_run laws w at.self.world (take at.place es) (map outcome_view at.outcomes.items) reach (at.invariant.each answers)))
+    let reach = subst (λ (v : Running). AllAnswer v → IsReachable x12 v.world) c.self.view_is c.self.invariant.reached answers in
+    (onward_of c.reached.ensures.reached w reach, onward_of c.reached.ensures.reached w reach)
 
-pub returns-clause-outsiders : goal.returns-clause-outsiders
-returns-clause-outsiders g c = λ answers.
+pub returns-in-Err-clause-onward : goal.returns-in-Err-clause-onward
+returns-in-Err-clause-onward g c = λ answers.
     let at = c.loop-event in
-    let es = map event_view c.args.events.now in
-    let w = c.args.self.now.world in
     let laws = c.reached.ensures.reached in
-    let reach = subst (λ (v : Running). AllAnswer v → IsReachable x12 v.world) c.self.view_is c.self.invariant.reached (all_back c.args.self.now.answers at.self.answers at.invariant.never_won_back answers) in
-    let later = reached_run laws w at.self.world (take at.place es) (map outcome_view at.outcomes.items) reach (at.invariant.each answers) in
-    (λ more. (facts_later laws w reach more).outsiders, λ more. (facts_later laws at.self.world later more).outsiders)
+    let before = all_back at.self.answers c.apply.new.self.answers c.in-Err.ensures.never_won_back answers in
+    let reach = subst (λ (v : Running). AllAnswer v → IsReachable x12 v.world) c.self.view_is c.self.invariant.reached (all_back c.args.self.now.answers at.self.answers (λ k. (at.invariant.disks k).never_won_back) before) in
+    (onward_of laws c.args.self.now.world reach, onward_of laws c.apply.new.self.world (c.in-Err.ensures.reached answers))
 
-pub returns-clause-facts : goal.returns-clause-facts
-returns-clause-facts g c = λ answers.
+pub returns-clause-onward : goal.returns-clause-onward
+returns-clause-onward g c = λ answers.
     let at = c.loop-event in
     let es = map event_view c.args.events.now in
     let w = c.args.self.now.world in
     let laws = c.reached.ensures.reached in
-    let reach = subst (λ (v : Running). AllAnswer v → IsReachable x12 v.world) c.self.view_is c.self.invariant.reached (all_back c.args.self.now.answers at.self.answers at.invariant.never_won_back answers) in
-    let later = reached_run laws w at.self.world (take at.place es) (map outcome_view at.outcomes.items) reach (at.invariant.each answers) in
-    (facts_later laws w reach, facts_later laws at.self.world later)
+    let reach = subst (λ (v : Running). AllAnswer v → IsReachable x12 v.world) c.self.view_is c.self.invariant.reached (all_back c.args.self.now.answers at.self.answers (λ k. (at.invariant.disks k).never_won_back) answers) in
+    (onward_of laws w reach, onward_of laws at.self.world (reached_run laws w at.self.world (take at.place es) (map outcome_view at.outcomes.items) reach (at.invariant.each answers)))
+
+-- The world before was reached.
+pub returns-in_default-clause-before : goal.returns-in_default-clause-before
+returns-in_default-clause-before g c = λ answers. onward_of c.reached.ensures.reached c.args.self.now.world (subst (λ (v : Running). AllAnswer v → IsReachable x12 v.world) c.self.view_is c.self.invariant.reached answers)
+
+pub returns-in-Err-clause-before : goal.returns-in-Err-clause-before
+returns-in-Err-clause-before g c = λ answers. onward_of c.reached.ensures.reached c.args.self.now.world (subst (λ (v : Running). AllAnswer v → IsReachable x12 v.world) c.self.view_is c.self.invariant.reached answers)
+
+pub returns-clause-before : goal.returns-clause-before
+returns-clause-before g c = λ answers. onward_of c.reached.ensures.reached c.args.self.now.world (subst (λ (v : Running). AllAnswer v → IsReachable x12 v.world) c.self.view_is c.self.invariant.reached answers)
+
+-- What each event kept, all keep.
+pub returns-in-Err-clause-disks : goal.returns-in-Err-clause-disks
+returns-in-Err-clause-disks g c = each_then _ tt (disks_of c.args.self.now) (disks_of c.loop-event.self) (disks_of c.apply.new.self) c.loop-event.invariant.disks (each_handed _ _ (disks_of c.loop-event.self) (disks_of c.apply.new.self) (λ P p. tt) c.in-Err.ensures.disks)
+
+pub returns-clause-disks : goal.returns-clause-disks
+returns-clause-disks g c = each_handed _ (Ok tt) (disks_of c.args.self.now) (disks_of c.loop-event.self) (λ P p. p) c.loop-event.invariant.disks
+
+pub returns-clause-whole : goal.returns-clause-whole
+returns-clause-whole g c = all_still {A = Unit {0}} {E = Unit {0}} (Ok tt) c.args.self.now c.loop-event.self c.loop-event.invariant.disks
