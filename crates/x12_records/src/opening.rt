@@ -118,7 +118,8 @@ pub fn open_station<S: Start>(
     station_in(rt.alloc(), found, me, hub, other)
 }
 
-/// The same of what the files hold: a program's own call, which owes nothing of them.
+/// The same of what the files hold: a program's own call, which owes nothing of them. At the type `Wary`
+/// they held nothing.
 pub fn open_station_file(
     rt: &HostRuntime,
     path: &str,
@@ -127,6 +128,9 @@ pub fn open_station_file(
     other: Option<Party>,
 ) -> Result<Station<SqliteRecords<FilesFrom<Wary>>>, OpenFault>
     requires { IsTrue (is_plain_party me) }
+    ensures opened { IfOk result (λ s. IsTrue s.answers → (db : Trees)
+        × IsFoundIn (image_at ⟦<Wary as Start>⟧) db
+        × (s.state ≡ opened me (hub ∷ option_to_list other) (content_of db))) }
 {
     open_station(rt, path, me, hub, other, Wary)
 }
