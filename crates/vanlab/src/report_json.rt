@@ -49,16 +49,22 @@ fn push_name(out: &mut Vec<u8>, name: &str) -> Result<(), AllocError> {
     Ok(())
 }
 
-/// Digits without the zeros in front.
-fn bare(digits: &[u8]) -> &[u8] {
-    let mut rest = digits;
-    while let [b'0', behind @ ..] = rest {
-        if behind.is_empty() {
-            return rest;
+/// How many zeros stand in front of digits.
+fn zeros_of(digits: &[u8]) -> usize {
+    let mut zeros = 0_usize;
+    for digit in digits {
+        if *digit != b'0' {
+            return zeros;
         }
-        rest = behind;
+        zeros = zeros.saturating_add(1);
     }
-    rest
+    zeros
+}
+
+/// Digits without the zeros in front; the last one stays.
+fn bare(digits: &[u8]) -> &[u8] {
+    let last = digits.len().saturating_sub(1);
+    digits.get(zeros_of(digits).min(last)..).unwrap_or(digits)
 }
 
 /// Adds the postings and the mark, which stand behind the fields whose places are fixed. There is no
