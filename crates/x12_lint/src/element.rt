@@ -99,7 +99,9 @@ fn is_number(text: &[u8]) -> bool
 fn is_decimal_text(text: &[u8]) -> bool
     ensures { result ≡ is_decimal text.now }
 {
-    digits(text) >= 1 && points(text) <= 1 && text.len() - digits(text) <= points(text)
+    let digits = digits(text);
+    let points = points(text);
+    digits >= 1 && points <= 1 && text.len() - digits <= points
 }
 
 /// The number that digits spell; 0, where they spell none.
@@ -226,10 +228,11 @@ pub fn flaw_of(rule: &Rule, text: &[u8]) -> Option<Flaw>
     if !rule.kind.holds(text) {
         return Some(Flaw::OfAnotherKind);
     }
-    if rule.kind.length(text) < rule.least {
+    let length = rule.kind.length(text);
+    if length < rule.least {
         return Some(Flaw::TooShort);
     }
-    if rule.kind.length(text) > rule.most {
+    if length > rule.most {
         return Some(Flaw::TooLong);
     }
     let codes = rule.codes.as_slice();

@@ -14,7 +14,7 @@ ghost use Rattle.x12_lint.specs.Linting.{remarks_of_set, SetRemark};
 
 use crate::element::{ElementKind, Flaw, Rule, flaw_of};
 use crate::naming::{Place, count_named, first_named, read_of, some_has_name};
-use crate::part::{element_at, elements_of, segments_of};
+use crate::part::{cut_elements, element_at, segments_of};
 use crate::remark::Remark;
 use crate::table::{Counting, SegmentRow, SetRows, Table, has_row, rows_of_set, rules_of_segment};
 use std::alloc::{AllocError, Global};
@@ -118,30 +118,31 @@ fn is_of_envelope(name: &[u8]) -> bool
     name == b"ST".as_slice() || name == b"SE".as_slice()
 }
 
-/// Adds what is remarked of the elements of a segment with this identifier.
+/// Adds what is remarked of the elements of a segment by these rules. They are cut into the list of
+/// elements, which is lent for that.
 fn lint_known<'r>(
-    alloc: Global,
     position: usize,
     read: &Segment<'r>,
     rules: &'r [Rule],
+    elements: &mut Vec<&'r [u8]>,
     remarks: &mut Vec<Remark<'r>>,
 ) -> Result<(), AllocError>
     ensures { let flaws = remark_of_element read.now.delims position read.now.bytes.now in
         OnOk result (map remark_view remarks.new.items
         ≡ map remark_view remarks.old.items ++ filter_map flaws rules.now) }
 {
-    let elements = elements_of(alloc, &read.delims, read.bytes)?;
-    lint_elements(position, read, &elements, rules, remarks)
+    cut_elements(&read.delims, read.bytes, elements)?;
+    lint_elements(position, read, elements, rules, remarks)
 }
 
 /// Adds what is remarked of a segment.
 #[tactic(auto, unfolding(crate::specs::Linting::remarks_of_segment))]
 fn lint_segment<'r>(
-    alloc: Global,
     table: &'r Table,
     rows: &SetRows,
     position: usize,
     read: &Segment<'r>,
+    elements: &mut Vec<&'r [u8]>,
     remarks: &mut Vec<Remark<'r>>,
 ) -> Result<(), AllocError>
     ensures { OnOk result (map remark_view remarks.new.items ≡ map remark_view remarks.old.items
@@ -153,10 +154,10 @@ fn lint_segment<'r>(
     }
     lint_name(rows, name, position, read.bytes, remarks)?;
     lint_known(
-        alloc,
         position,
         read,
         rules_of_segment(table, name),
+        elements,
         remarks,
     )
 }
@@ -174,13 +175,14 @@ fn lint_segments<'r>(
         ++ flat_map (remarks_of_segment table.now rows.now delims.now)
         (enumerate_from 1 (texts parts.now))) }
 {
+    let mut elements = Vec::new(alloc);
     for (index, part) in parts.iter().enumerate() {
         lint_segment(
-            alloc,
             table,
             rows,
             index + 1,
             &read_of(delims, part),
+            &mut elements,
             remarks,
         )?;
     }

@@ -1,15 +1,12 @@
 //! The segments of a set, and the elements of a segment, cut once.
 
-ghost use Rattle.std.specs.Prelude.{◌≡◌, IfOk};
+ghost use Rattle.std.specs.Prelude.{◌≡◌, IfOk, OnOk};
 ghost use Rattle.x12_envelopes.specs.Segment.{parts_of, element_of};
 ghost use Rattle.x12_envelopes.specs.Writing.{texts};
 ghost use Rattle.x12_lint.specs.Linting.{AreElements};
 
 use std::alloc::{AllocError, Global};
 use x12_envelopes::{Delims, cut_at, cut_segment};
-
-/// How many elements a segment mostly has at most, its identifier counted.
-const MANY: usize = 12;
 
 /// The segments of a set.
 pub(crate) fn segments_of<'r>(
@@ -28,22 +25,21 @@ pub(crate) fn segments_of<'r>(
     Ok(parts)
 }
 
-/// The identifier and the elements of a segment.
-pub(crate) fn elements_of<'r>(
-    alloc: Global,
+/// Puts the identifier and the elements of a segment in the place of what was cut before.
+pub(crate) fn cut_elements<'r>(
     delims: &Delims,
     part: &'r [u8],
-) -> Result<Vec<&'r [u8]>, AllocError>
-    ensures { IfOk result (λ elements. AreElements delims.now part.now elements.items) }
+    elements: &mut Vec<&'r [u8]>,
+) -> Result<(), AllocError>
+    ensures { OnOk result (AreElements delims.now part.now elements.new.items) }
 {
-    let mut elements = Vec::with_capacity(alloc, MANY)?;
+    elements.clear();
     let mut rest = part;
     while let Some((element, behind)) = cut_at(delims.element, rest) {
         elements.push(element)?;
         rest = behind;
     }
-    elements.push(rest)?;
-    Ok(elements)
+    Ok(elements.push(rest)?)
 }
 
 /// The element at a place of a segment that was cut into these; empty where it is missing.

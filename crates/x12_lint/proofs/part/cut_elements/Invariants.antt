@@ -1,7 +1,7 @@
 use Rattle.std.proofs.Common.{◌≡◌, ◌++◌, ◌==◌, length}
 use Rattle.std.specs.List.{slice_split}
 use Rattle.x12_envelopes.specs.Writing.{texts}
-use Rattle.x12_lint.proofs.part.elements_of.Given as goal
+use Rattle.x12_lint.proofs.part.cut_elements.Given as goal
 
 abbrev pub invariant-loop-element : goal.invariant-loop-element
 invariant-loop-element l =

@@ -1,7 +1,7 @@
 use Rattle.std.proofs.Common.{arith}
 use Rattle.std.proofs.lemmas.Grind.{common_steps}
 use Rattle.x12_envelopes.proofs.CuttingLemmas.{cut_split}
-use Rattle.x12_lint.proofs.part.elements_of.Goals as goal
+use Rattle.x12_lint.proofs.part.cut_elements.Goals as goal
 
 pub loop-element-preserved : goal.loop-element-preserved
 loop-element-preserved c =
