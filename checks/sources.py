@@ -11,8 +11,8 @@ words    a word of specs/ stands in one file, and so does the statement of a lem
          called; a body of three lines and more stands once in src/
 types    a public type of src/ has a name of its own among all crates
 
-What may stand twice is in sources.txt, a line each: the kind, the name, and behind a colon the reason, of a type its crates;
-a line that isn't needed is wrong, so that the list doesn't grow. The last line is 'N passed, M failed'.
+What may stand twice, or unused, is in sources.txt, a line each: the kind, the name, and behind a colon the reason, of a type
+its crates; a line that isn't needed is wrong, so that the list doesn't grow. The last line is 'N passed, M failed'.
 """
 import collections
 import os
@@ -93,6 +93,7 @@ def is_used(name, rest):
 
 def imports(sources):
     """Names that are imported and not used, and aliases, of each file."""
+    may = dict(sources.may["import"])
     for part, (comment, form) in FORMS.items():
         for path, text in sources.src if part == "src" else sources.specs:
             text = re.sub(comment, "", text)
@@ -101,9 +102,11 @@ def imports(sources):
                 if ghost and alias and part == "src":
                     found.append(f"{path}:{line}: {name} as {alias}: an alias, which no search finds")
                 is_open = name in ("*", "self") or alias == "_" or use.group(0).lstrip().startswith("pub")
-                if not is_open and not is_used(alias or name, rest):
+                if not is_open and not is_used(alias or name, rest) and not may.pop(f"{path}|{name}", None):
                     found.append(f"{path}:{line}: {alias or name}: not used")
             yield found
+    for name in may:
+        yield [f"import {name}: may stand unused by sources.txt, and doesn't"]
 
 
 def gathered(sources, kind):

@@ -18,7 +18,7 @@ use Rattle.x12_envelopes.specs.WrittenSegments.{SegmentsFit}
 use Rattle.x12_envelopes.specs.Grammar.{ReadsTreesAlone}
 use Rattle.x12_envelopes.specs.Writable.{HeaderIsWritable, OutlineIsWritable}
 use Rattle.x12_envelopes.specs.Envelope.{WrittenInterchange, WrittenGroup, WrittenSet, set_segments, group_segments, ge_segment, element_at, written, written_header}
-use Rattle.x12_judge.specs.Agreement.{TradingAgreement}
+use Rattle.x12_judge.specs.Controls.{JudgingTerms}
 use Rattle.x12_judge.specs.Verdict.{judgement_of}
 use Rattle.x12_acks.specs.Reply.{reply_to, reply_of, refusal_of, MayAnswer}
 use Rattle.x12_acks.specs.Statement.{statement_of}
@@ -104,11 +104,11 @@ pub record Laws : Type 0 where
   pub writable_outline : OutlineIsWritable
   pub trees : ReadsTreesAlone
 
-pub reply_back : Laws → (hubs : List Party) (submissions : List Submission) (agreements : List TradingAgreement) (h : Header) (bytes : List ℕ) (x : Interchange) (at : Moment) (icn gcn : ℕ) → IsOfOrders h bytes x → IsSubmittedAmong submissions (submission_of h bytes x) → icn ≤ 999999999 → gcn ≤ 999999999 → Tells hubs submissions (written (reply_of h (judgement_of h.receiver agreements h bytes) h.receiver at icn gcn)) (told_by_place (submission_of h bytes x) (judgement_of h.receiver agreements h bytes).verdict)
+pub reply_back : Laws → (hubs : List Party) (submissions : List Submission) (terms : JudgingTerms) (h : Header) (bytes : List ℕ) (x : Interchange) (at : Moment) (icn gcn : ℕ) → IsOfOrders h bytes x → IsSubmittedAmong submissions (submission_of h bytes x) → icn ≤ 999999999 → gcn ≤ 999999999 → Tells hubs submissions (written (reply_of h (judgement_of h.receiver terms h bytes) h.receiver at icn gcn)) (told_by_place (submission_of h bytes x) (judgement_of h.receiver terms h bytes).verdict)
 unfolding reply_of reply_to
-reply_back laws hubs submissions agreements h bytes x at icn gcn orders is small few =
-    let held = reply_fits laws.readable laws.writable_header laws.writable_outline laws.trees h.receiver agreements h bytes at icn gcn orders.header (inl refl) small few in
-    tells_back laws.elements laws.header laws.outline laws.fit hubs h.receiver submissions (reply_of h (judgement_of h.receiver agreements h bytes) h.receiver at icn gcn) _ held refl (reply_tells hubs submissions agreements h bytes x at icn gcn laws.readable laws.number orders is)
+reply_back laws hubs submissions terms h bytes x at icn gcn orders is small few =
+    let held = reply_fits laws.readable laws.writable_header laws.writable_outline laws.trees h.receiver terms h bytes at icn gcn orders.header (inl refl) small few in
+    tells_back laws.elements laws.header laws.outline laws.fit hubs h.receiver submissions (reply_of h (judgement_of h.receiver terms h bytes) h.receiver at icn gcn) _ held refl (reply_tells hubs submissions terms h bytes x at icn gcn laws.readable laws.number orders is)
 
 -- who may refuse is the receiver or one of the hubs, and may answer
 refuser : (hubs : List Party) (from : Party) (h : Header) → MayRefuse hubs h from → (from ≡ h.receiver) ⊎ Contains hubs from

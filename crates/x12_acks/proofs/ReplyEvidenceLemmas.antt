@@ -1,5 +1,5 @@
 -- The evidence of a reply's answers is the verdict's.
-use Rattle.std.proofs.Common.{◌≡◌, ◌∷◌, [], List, ℕ, Bool, true, false, not, map, unwrap_or, if◌then◌else◌, ◌==◌, length, refl, cond, ap, ap₂, append-nil, arith, sym, ◌∙◌, is_some, count_by, ◌+◌}
+use Rattle.std.proofs.Common.{◌≡◌, ◌∷◌, [], List, ℕ, Bool, true, false, not, map, if◌then◌else◌, ◌==◌, length, refl, cond, ap, ap₂, append-nil, arith, sym, ◌∙◌, is_some, count_by, ◌+◌}
 use Rattle.std.specs.Prelude.{Some, find, bytes_eq, zip}
 use Rattle.std.specs.List.{AllByRecursion, IsDistinct, list_any}
 use Rattle.x12_judge.specs.declared.verdict.SetResult.{SetResult}

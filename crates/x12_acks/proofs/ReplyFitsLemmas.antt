@@ -29,6 +29,7 @@ use Rattle.x12_envelopes.proofs.OutlineBackLemmas.{limits}
 use Rattle.x12_envelopes.proofs.WrittenKindLemmas.{free_element, filled_by_length, filled_number}
 use Rattle.x12_envelopes.proofs.WrittenLengthLemmas.{length_padded}
 use Rattle.x12_judge.specs.Agreement.{TradingAgreement, set_is_agreed, partner_is_lenient}
+use Rattle.x12_judge.specs.Controls.{JudgingTerms}
 use Rattle.x12_judge.specs.Set.{verdict_of_set}
 use Rattle.x12_judge.specs.Group.{FunctionalGroupVerdict, refusal_of_group, verdicts_of_sets, verdict_of_group}
 use Rattle.x12_judge.specs.Interchange.{Reading, note_of_interchange}
@@ -163,14 +164,14 @@ verdict_fits h me at icn gcn None vs is own eight small few noted are within =
     (answer_group_fits h.delims at gcn vs is.delims eight few (omega (arith, most, few_answers at gcn vs)) are) within
 
 -- a reply to an interchange whose header can be read
-pub reply_fits : ReadIsReadable → HeaderIsWritable → OutlineIsWritable → ReadsTreesAlone → (me : Party) (agreements : List TradingAgreement) (h : Header) (bytes : List ℕ) (at : Moment) (icn gcn : ℕ) → header_of bytes ≡ Ok h → MayAnswer h me → icn ≤ 999999999 → gcn ≤ 999999999 → interchange_fits (reply_of h (judgement_of me agreements h bytes) me at icn gcn) ≡ true
+pub reply_fits : ReadIsReadable → HeaderIsWritable → OutlineIsWritable → ReadsTreesAlone → (me : Party) (terms : JudgingTerms) (h : Header) (bytes : List ℕ) (at : Moment) (icn gcn : ℕ) → header_of bytes ≡ Ok h → MayAnswer h me → icn ≤ 999999999 → gcn ≤ 999999999 → interchange_fits (reply_of h (judgement_of me terms h bytes) me at icn gcn) ≡ true
 unfolding reply_of judgement_of
-reply_fits readable header outline trees me agreements h bytes at icn gcn read may small few =
+reply_fits readable header outline trees me terms h bytes at icn gcn read may small few =
     let is = header bytes h read in
     let own = may_answer_address h me is may in
     let reading = outline_of h.delims bytes in
-    let short = reply_is_short trees me agreements h bytes at icn gcn read (sized h.delims me at own) small few in
-    verdict_fits h me at icn gcn (note_of_interchange me h reading) (verdicts_of_groups agreements h reading) is own at.with_century small few (interchange_note_small me h reading) (verdicts_fit readable outline agreements h bytes reading is.delims refl) (within_limits _ short)
+    let short = reply_is_short trees me terms h bytes at icn gcn read (sized h.delims me at own) small few in
+    verdict_fits h me at icn gcn (note_of_interchange terms.controls me h reading) (verdicts_of_groups terms.agreements h reading) is own at.with_century small few (interchange_note_small terms.controls me h reading) (verdicts_fit readable outline terms.agreements h bytes reading is.delims refl) (within_limits _ short)
 
 -- a refusal of it
 pub refusal_fits : HeaderIsWritable → (me : Party) (note : ℕ) (h : Header) (bytes : List ℕ) (at : Moment) (icn : ℕ) → header_of bytes ≡ Ok h → MayAnswer h me → icn ≤ 999999999 → note ≤ 999 → interchange_fits (refusal_of note h me at icn) ≡ true

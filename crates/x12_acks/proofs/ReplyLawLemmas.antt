@@ -13,7 +13,8 @@ use Rattle.x12_envelopes.specs.Header.{header_of}
 use Rattle.x12_envelopes.specs.Content.{code_of_acknowledgment}
 use Rattle.x12_envelopes.specs.Shape.{Interchange, FunctionalGroup}
 use Rattle.x12_envelopes.specs.Readable.{ReadIsReadable, HeaderNumberIsReadable}
-use Rattle.x12_judge.specs.Agreement.{TradingAgreement, is_same_party}
+use Rattle.x12_judge.specs.Agreement.{is_same_party}
+use Rattle.x12_judge.specs.Controls.{JudgingTerms}
 use Rattle.x12_judge.specs.Group.{FunctionalGroupVerdict}
 use Rattle.x12_judge.specs.Interchange.{note_of_interchange}
 use Rattle.x12_judge.specs.Verdict.{verdict_by, verdicts_of_groups, judgement_of}
@@ -104,21 +105,21 @@ groups_distinct [] distinct = tt
 groups_distinct (g ∷ gs) distinct = (submitted_all g.number gs distinct.0, groups_distinct gs distinct.1)
 
 -- what the segments of a reply tell, for an interchange whose numbers can be read
-reply_tells_each : (hubs : List Party) (submissions : List Submission) (agreements : List TradingAgreement) (h : Header) (bytes : List ℕ) (x : Interchange) (at : Moment) (icn gcn : ℕ) → ReadIsReadable → HeaderNumberIsReadable → IsOfOrders h bytes x → IsSubmittedAmong submissions (submission_of h bytes x) → evidence_of hubs submissions h.receiver (written_answers (reply_of h (judgement_of h.receiver agreements h bytes) h.receiver at icn gcn)) ≡ verdict_told (submission_of h bytes x) (judgement_of h.receiver agreements h bytes).verdict
+reply_tells_each : (hubs : List Party) (submissions : List Submission) (terms : JudgingTerms) (h : Header) (bytes : List ℕ) (x : Interchange) (at : Moment) (icn gcn : ℕ) → ReadIsReadable → HeaderNumberIsReadable → IsOfOrders h bytes x → IsSubmittedAmong submissions (submission_of h bytes x) → evidence_of hubs submissions h.receiver (written_answers (reply_of h (judgement_of h.receiver terms h bytes) h.receiver at icn gcn)) ≡ verdict_told (submission_of h bytes x) (judgement_of h.receiver terms h bytes).verdict
 unfolding reply_of judgement_of verdicts_of_groups submission_of keyed_groups
-reply_tells_each hubs submissions agreements h bytes x at icn gcn readable header orders is =
+reply_tells_each hubs submissions terms h bytes x at icn gcn readable header orders is =
     let e : Submission = submission_of h bytes x in
     let fit = readable h.delims bytes x orders.outline in
     rw orders.outline
-    (reply_told hubs submissions h e at icn gcn (note_of_interchange h.receiver h (Ok x)) (verdicts_of_groups agreements h (Ok x)) is refl (header bytes h orders.header)
-    (groups_judged agreements h.sender h.delims e 1 x.groups fit orders.sets orders.orders)
+    (reply_told hubs submissions h e at icn gcn (note_of_interchange terms.controls h.receiver h (Ok x)) (verdicts_of_groups terms.agreements h (Ok x)) is refl (header bytes h orders.header)
+    (groups_judged terms.agreements h.sender h.delims e 1 x.groups fit orders.sets orders.orders)
     (groups_found submissions e h.receiver is (same_party_itself h.receiver) (groups_distinct x.groups orders.groups)))
 
 -- and by place
-pub reply_tells : (hubs : List Party) (submissions : List Submission) (agreements : List TradingAgreement) (h : Header) (bytes : List ℕ) (x : Interchange) (at : Moment) (icn gcn : ℕ) → ReadIsReadable → HeaderNumberIsReadable → IsOfOrders h bytes x → IsSubmittedAmong submissions (submission_of h bytes x) → evidence_of hubs submissions h.receiver (written_answers (reply_of h (judgement_of h.receiver agreements h bytes) h.receiver at icn gcn)) ≡ told_by_place (submission_of h bytes x) (judgement_of h.receiver agreements h bytes).verdict
-reply_tells hubs submissions agreements h bytes x at icn gcn readable header orders is =
-    reply_tells_each hubs submissions agreements h bytes x at icn gcn readable header orders is
-    ∙ verdict_is_told_by_place h.receiver agreements h bytes x orders.outline orders.orders
+pub reply_tells : (hubs : List Party) (submissions : List Submission) (terms : JudgingTerms) (h : Header) (bytes : List ℕ) (x : Interchange) (at : Moment) (icn gcn : ℕ) → ReadIsReadable → HeaderNumberIsReadable → IsOfOrders h bytes x → IsSubmittedAmong submissions (submission_of h bytes x) → evidence_of hubs submissions h.receiver (written_answers (reply_of h (judgement_of h.receiver terms h bytes) h.receiver at icn gcn)) ≡ told_by_place (submission_of h bytes x) (judgement_of h.receiver terms h bytes).verdict
+reply_tells hubs submissions terms h bytes x at icn gcn readable header orders is =
+    reply_tells_each hubs submissions terms h bytes x at icn gcn readable header orders is
+    ∙ verdict_is_told_by_place h.receiver terms h bytes x orders.outline orders.orders
 
 -- a hub of the list
 pub hub_known : (from : Party) (hubs : List Party) → Contains hubs from → list_any (is_same_party from) hubs ≡ true

@@ -18,6 +18,7 @@ use Rattle.x12_envelopes.specs.Fitting.{interchange_fits}
 use Rattle.x12_envelopes.specs.RoundTrip.{ElementsReadBack, HeaderReadBack, OutlineReadBack, written_outline}
 use Rattle.x12_envelopes.specs.WrittenSegments.{SegmentsFit}
 use Rattle.x12_judge.specs.Agreement.{TradingAgreement, set_is_agreed, partner_is_lenient}
+use Rattle.x12_judge.specs.Controls.{JudgingTerms}
 use Rattle.x12_judge.specs.declared.verdict.SetResult.{SetResult}
 use Rattle.x12_judge.specs.declared.verdict.SetResult.TheVariants as result
 use Rattle.x12_judge.specs.Interchange.{note_of_interchange}
@@ -187,11 +188,11 @@ answered_read n (g ∷ gs) read =
     read_by (not (group_is_acknowledgment g)) (n, g) (filter (λ place. not (group_is_acknowledgment place.1)) (enumerate_from (n + 1) gs)) read.0 (answered_read (n + 1) gs read.1)
 
 -- what the segments of a reply accept, for an interchange whose numbers can be read
-pub segments_accept : ReadIsReadable → (test : SetResult → Bool) → test result.Rejected ≡ false → (me : Party) (agreements : List TradingAgreement) (h : Header) (bytes : List ℕ) (x : Interchange) (at : Moment) (icn gcn : ℕ) → outline_of h.delims bytes ≡ Ok x → sets_by_reply test h x (written_answers (reply_of h (judgement_of me agreements h bytes) me at icn gcn)) ≡ sets_by_verdict test h.sender h.icn (judgement_of me agreements h bytes).verdict
+pub segments_accept : ReadIsReadable → (test : SetResult → Bool) → test result.Rejected ≡ false → (me : Party) (terms : JudgingTerms) (h : Header) (bytes : List ℕ) (x : Interchange) (at : Moment) (icn gcn : ℕ) → outline_of h.delims bytes ≡ Ok x → sets_by_reply test h x (written_answers (reply_of h (judgement_of me terms h bytes) me at icn gcn)) ≡ sets_by_verdict test h.sender h.icn (judgement_of me terms h bytes).verdict
 unfolding sets_by_reply reply_of judgement_of verdicts_of_groups
-segments_accept readable test none me agreements h bytes x at icn gcn is =
+segments_accept readable test none me terms h bytes x at icn gcn is =
     rw is
-    (reply_accepts test none h agreements me at icn gcn (note_of_interchange me h (Ok x)) (answered_groups x)
+    (reply_accepts test none h terms.agreements me at icn gcn (note_of_interchange terms.controls me h (Ok x)) (answered_groups x)
     (answered_read 1 x.groups (readable h.delims bytes x is)))
 
 -- each 997 names its group
@@ -227,21 +228,21 @@ reply_names h agreements me at icn gcn (Some note) ps groups read is = absurd (c
 reply_names h agreements me at icn gcn None ps groups read is =
     rw (answers_in_place h agreements me at icn gcn ps read) (each_named agreements h.sender h.delims ps)
 
-pub segments_name : ReadIsReadable → (me : Party) (agreements : List TradingAgreement) (h : Header) (bytes : List ℕ) (x : Interchange) (at : Moment) (icn gcn : ℕ) (groups : List FunctionalGroupVerdict) → outline_of h.delims bytes ≡ Ok x → (judgement_of me agreements h bytes).verdict ≡ judged groups → AllZip (λ place a. NamesGroup place.1 a) (answered_groups x) (flat_map functional_answer (written_answers (reply_of h (judgement_of me agreements h bytes) me at icn gcn)))
+pub segments_name : ReadIsReadable → (me : Party) (terms : JudgingTerms) (h : Header) (bytes : List ℕ) (x : Interchange) (at : Moment) (icn gcn : ℕ) (groups : List FunctionalGroupVerdict) → outline_of h.delims bytes ≡ Ok x → (judgement_of me terms h bytes).verdict ≡ judged groups → AllZip (λ place a. NamesGroup place.1 a) (answered_groups x) (flat_map functional_answer (written_answers (reply_of h (judgement_of me terms h bytes) me at icn gcn)))
 unfolding reply_of judgement_of verdicts_of_groups
-segments_name readable me agreements h bytes x at icn gcn groups is held =
+segments_name readable me terms h bytes x at icn gcn groups is held =
     rw is
-    (reply_names h agreements me at icn gcn (note_of_interchange me h (Ok x)) (answered_groups x) groups
+    (reply_names h terms.agreements me at icn gcn (note_of_interchange terms.controls me h (Ok x)) (answered_groups x) groups
     (answered_read 1 x.groups (readable h.delims bytes x is)) (rw is at held))
 
 -- what the bytes of a reply that fits accept
-pub bytes_accept : ReadIsReadable → ElementsReadBack → HeaderReadBack → OutlineReadBack → SegmentsFit → (me : Party) (agreements : List TradingAgreement) (h : Header) (bytes : List ℕ) (x : Interchange) (at : Moment) (icn gcn : ℕ) → outline_of h.delims bytes ≡ Ok x → interchange_fits (reply_of h (judgement_of me agreements h bytes) me at icn gcn) ≡ true → AcceptsSets h x (written (reply_of h (judgement_of me agreements h bytes) me at icn gcn)) (accepted_by_verdict h.sender h.icn (judgement_of me agreements h bytes).verdict)
-bytes_accept readable back header outline fit me agreements h bytes x at icn gcn is held =
-    let reply : WrittenInterchange = reply_of h (judgement_of me agreements h bytes) me at icn gcn in
+pub bytes_accept : ReadIsReadable → ElementsReadBack → HeaderReadBack → OutlineReadBack → SegmentsFit → (me : Party) (terms : JudgingTerms) (h : Header) (bytes : List ℕ) (x : Interchange) (at : Moment) (icn gcn : ℕ) → outline_of h.delims bytes ≡ Ok x → interchange_fits (reply_of h (judgement_of me terms h bytes) me at icn gcn) ≡ true → AcceptsSets h x (written (reply_of h (judgement_of me terms h bytes) me at icn gcn)) (accepted_by_verdict h.sender h.icn (judgement_of me terms h bytes).verdict)
+bytes_accept readable back header outline fit me terms h bytes x at icn gcn is held =
+    let reply : WrittenInterchange = reply_of h (judgement_of me terms h bytes) me at icn gcn in
     record {
       header = written_header reply;
       outline = written_outline reply;
       is_header = header reply held;
       is_outline = outline reply held;
-      accepted = ap (sets_by_reply takes h x) (answers_back back fit reply held) ∙ segments_accept readable takes refl me agreements h bytes x at icn gcn is;
+      accepted = ap (sets_by_reply takes h x) (answers_back back fit reply held) ∙ segments_accept readable takes refl me terms h bytes x at icn gcn is;
     }

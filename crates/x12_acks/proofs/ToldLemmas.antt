@@ -192,4 +192,4 @@ all_answered n (g ∷ gs) all = rw (all.0) (ap (λ ps. (n, g) ∷ ps) (all_answe
 
 pub verdict_is_told_by_place : VerdictIsToldByPlace
 unfolding judgement_of verdicts_of_groups submission_of
-verdict_is_told_by_place me a h bytes x is orders = rw (is, all_answered 1 x.groups orders) (verdict_by_place h a (submission_of h bytes x) (note_of_interchange me h (Ok x)) x.groups refl)
+verdict_is_told_by_place me terms h bytes x is orders = rw (is, all_answered 1 x.groups orders) (verdict_by_place h terms.agreements (submission_of h bytes x) (note_of_interchange terms.controls me h (Ok x)) x.groups refl)

@@ -21,7 +21,7 @@ use Rattle.x12_envelopes.specs.Fitting.{interchange_fits}
 use Rattle.x12_envelopes.specs.RoundTrip.{written_outline}
 use Rattle.x12_envelopes.specs.Writable.{IsAddress}
 use Rattle.x12_envelopes.specs.Shape.{FunctionalGroup, Interchange}
-use Rattle.x12_judge.specs.Agreement.{TradingAgreement}
+use Rattle.x12_judge.specs.Controls.{JudgingTerms}
 use Rattle.x12_judge.specs.Verdict.{judgement_of, group_is_acknowledgment}
 use Rattle.x12_acks.specs.Reply.{reply_of, refusal_of, MayAnswer}
 use Rattle.x12_acks.specs.Statement.{Statement, statement_of}
@@ -96,13 +96,13 @@ pub record IsOfOrders (h : Header) (bytes : List ℕ) (x : Interchange) : Type 0
 -- receiver or by one of the hubs tells is a rejection of each, whatever the interchange holds.
 pub record SegmentsTellVerdict : Type 0 where
   pub reply :
-      (hubs : List Party) (submissions : List Submission) (agreements : List TradingAgreement)
+      (hubs : List Party) (submissions : List Submission) (terms : JudgingTerms)
       (h : Header) (bytes : List ℕ) (x : Interchange) (at : Moment) (icn gcn : ℕ) →
       IsOfOrders h bytes x → IsSubmittedAmong submissions (submission_of h bytes x) →
       evidence_of hubs submissions h.receiver
       (written_answers
-      (reply_of h (judgement_of h.receiver agreements h bytes) h.receiver at icn gcn))
-      ≡ told_by_place (submission_of h bytes x) (judgement_of h.receiver agreements h bytes).verdict
+      (reply_of h (judgement_of h.receiver terms h bytes) h.receiver at icn gcn))
+      ≡ told_by_place (submission_of h bytes x) (judgement_of h.receiver terms h bytes).verdict
   pub refusal :
       (hubs : List Party) (from : Party) (submissions : List Submission) (note : ℕ) (h : Header)
       (bytes : List ℕ) (x : Interchange) (at : Moment) (icn : ℕ) →
@@ -139,10 +139,10 @@ PlainPartyIsAddress =
 -- under control numbers of at most nine digits.
 pub record ReplyFits : Type 0 where
   pub reply :
-      (me : Party) (agreements : List TradingAgreement) (h : Header) (bytes : List ℕ) (at : Moment)
+      (me : Party) (terms : JudgingTerms) (h : Header) (bytes : List ℕ) (at : Moment)
       (icn gcn : ℕ) →
       header_of bytes ≡ Ok h → MayAnswer h me → icn ≤ 999999999 → gcn ≤ 999999999 →
-      interchange_fits (reply_of h (judgement_of me agreements h bytes) me at icn gcn) ≡ true
+      interchange_fits (reply_of h (judgement_of me terms h bytes) me at icn gcn) ≡ true
   pub refusal :
       (me : Party) (note : ℕ) (h : Header) (bytes : List ℕ) (at : Moment) (icn : ℕ) →
       header_of bytes ≡ Ok h → MayAnswer h me → icn ≤ 999999999 → note ≤ 999 →
@@ -157,13 +157,13 @@ MayRefuse hubs h from = (from ≡ h.receiver) ⊎ (Contains hubs from × (is_pla
 -- at most three digits, tell a rejection of each. The control numbers have at most nine digits.
 pub record ReplyTellsVerdict : Type 0 where
   pub reply :
-      (hubs : List Party) (submissions : List Submission) (agreements : List TradingAgreement)
+      (hubs : List Party) (submissions : List Submission) (terms : JudgingTerms)
       (h : Header) (bytes : List ℕ) (x : Interchange) (at : Moment) (icn gcn : ℕ) →
       IsOfOrders h bytes x → IsSubmittedAmong submissions (submission_of h bytes x) →
       icn ≤ 999999999 → gcn ≤ 999999999 →
       Tells hubs submissions
-      (written (reply_of h (judgement_of h.receiver agreements h bytes) h.receiver at icn gcn))
-      (told_by_place (submission_of h bytes x) (judgement_of h.receiver agreements h bytes).verdict)
+      (written (reply_of h (judgement_of h.receiver terms h bytes) h.receiver at icn gcn))
+      (told_by_place (submission_of h bytes x) (judgement_of h.receiver terms h bytes).verdict)
   pub refusal :
       (hubs : List Party) (from : Party) (submissions : List Submission) (note : ℕ) (h : Header)
       (bytes : List ℕ) (x : Interchange) (at : Moment) (icn : ℕ) →

@@ -6,7 +6,7 @@ use Rattle.x12_envelopes.specs.declared.moment.Moment.{Moment}
 use Rattle.x12_envelopes.specs.declared.header.Header.{Header}
 use Rattle.x12_envelopes.specs.Header.{header_of}
 use Rattle.x12_envelopes.specs.Envelope.{WrittenInterchange, WrittenGroup, written}
-use Rattle.x12_judge.specs.Agreement.{TradingAgreement}
+use Rattle.x12_judge.specs.Controls.{JudgingTerms}
 use Rattle.x12_judge.specs.Verdict.{judgement_of}
 use Rattle.x12_acks.specs.Reply.{reply_of, refusal_of, MayAnswer}
 
@@ -21,10 +21,10 @@ pub record IsShort (x : WrittenInterchange) : Type 0 where
 -- digits.
 pub record ReplyIsShort : Type 0 where
   pub reply :
-      (me : Party) (agreements : List TradingAgreement) (h : Header) (bytes : List ℕ) (at : Moment)
+      (me : Party) (terms : JudgingTerms) (h : Header) (bytes : List ℕ) (at : Moment)
       (icn gcn : ℕ) →
       header_of bytes ≡ Ok h → MayAnswer h me → icn ≤ 999999999 → gcn ≤ 999999999 →
-      IsShort (reply_of h (judgement_of me agreements h bytes) me at icn gcn)
+      IsShort (reply_of h (judgement_of me terms h bytes) me at icn gcn)
   pub refusal :
       (me : Party) (note : ℕ) (h : Header) (bytes : List ℕ) (at : Moment) (icn : ℕ) →
       header_of bytes ≡ Ok h → MayAnswer h me → icn ≤ 999999999 → note ≤ 999 →

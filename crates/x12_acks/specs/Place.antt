@@ -10,7 +10,7 @@ use Rattle.x12_envelopes.specs.Header.{header_of}
 use Rattle.x12_envelopes.specs.Outline.{outline_of}
 use Rattle.x12_envelopes.specs.Envelope.{written}
 use Rattle.x12_envelopes.specs.Shape.{Interchange, FunctionalGroup, TransactionSet}
-use Rattle.x12_judge.specs.Agreement.{TradingAgreement}
+use Rattle.x12_judge.specs.Controls.{JudgingTerms}
 use Rattle.x12_judge.specs.declared.verdict.SetResult.{SetResult}
 use Rattle.x12_judge.specs.declared.verdict.SetResult.TheVariants.{Rejected}
 use Rattle.x12_judge.specs.Set.{takes, is_noted}
@@ -110,24 +110,24 @@ pub record AcceptsSets (h : Header) (x : Interchange) (reply : List ℕ)
 pub record ReplyAcceptsByPlace : Type 0 where
   pub segments :
       (test : SetResult → Bool) → test Rejected ≡ false →
-      (me : Party) (agreements : List TradingAgreement) (h : Header) (bytes : List ℕ)
+      (me : Party) (terms : JudgingTerms) (h : Header) (bytes : List ℕ)
       (x : Interchange) (at : Moment) (icn gcn : ℕ) →
       outline_of h.delims bytes ≡ Ok x →
       sets_by_reply test h x
-      (written_answers (reply_of h (judgement_of me agreements h bytes) me at icn gcn))
-      ≡ sets_by_verdict test h.sender h.icn (judgement_of me agreements h bytes).verdict
+      (written_answers (reply_of h (judgement_of me terms h bytes) me at icn gcn))
+      ≡ sets_by_verdict test h.sender h.icn (judgement_of me terms h bytes).verdict
   pub named :
-      (me : Party) (agreements : List TradingAgreement) (h : Header) (bytes : List ℕ)
+      (me : Party) (terms : JudgingTerms) (h : Header) (bytes : List ℕ)
       (x : Interchange) (at : Moment) (icn gcn : ℕ) (groups : List FunctionalGroupVerdict) →
       outline_of h.delims bytes ≡ Ok x →
-      (judgement_of me agreements h bytes).verdict ≡ judged groups →
+      (judgement_of me terms h bytes).verdict ≡ judged groups →
       AllZip (λ g a. NamesGroup (its_item g) a) (answered_groups x)
       (flat_map functional_answer
-      (written_answers (reply_of h (judgement_of me agreements h bytes) me at icn gcn)))
+      (written_answers (reply_of h (judgement_of me terms h bytes) me at icn gcn)))
   pub bytes :
-      (me : Party) (agreements : List TradingAgreement) (h : Header) (bytes : List ℕ)
+      (me : Party) (terms : JudgingTerms) (h : Header) (bytes : List ℕ)
       (x : Interchange) (at : Moment) (icn gcn : ℕ) →
       header_of bytes ≡ Ok h → outline_of h.delims bytes ≡ Ok x →
       MayAnswer h me → icn ≤ 999999999 → gcn ≤ 999999999 →
-      AcceptsSets h x (written (reply_of h (judgement_of me agreements h bytes) me at icn gcn))
-      (accepted_by_verdict h.sender h.icn (judgement_of me agreements h bytes).verdict)
+      AcceptsSets h x (written (reply_of h (judgement_of me terms h bytes) me at icn gcn))
+      (accepted_by_verdict h.sender h.icn (judgement_of me terms h bytes).verdict)

@@ -8,7 +8,7 @@ use Rattle.x12_envelopes.specs.declared.party.Party.{Party}
 use Rattle.x12_envelopes.specs.declared.header.Header.{Header}
 use Rattle.x12_envelopes.specs.Outline.{outline_of}
 use Rattle.x12_envelopes.specs.Shape.{Interchange}
-use Rattle.x12_judge.specs.Agreement.{TradingAgreement}
+use Rattle.x12_judge.specs.Controls.{JudgingTerms}
 use Rattle.x12_judge.specs.declared.verdict.SetResult.{SetResult}
 use Rattle.x12_judge.specs.declared.verdict.SetResult.TheVariants.{Accepted, Noted, Rejected}
 use Rattle.x12_judge.specs.Set.{TransactionSetVerdict}
@@ -70,9 +70,9 @@ verdict_told e (judged groups) = flat_map (λ p. group_told p.0 p.1) (zip (keyed
 -- Both are the same, of an interchange that can be read and has no group of acknowledgments.
 abbrev pub VerdictIsToldByPlace : Type 0
 VerdictIsToldByPlace =
-    (me : Party) (agreements : List TradingAgreement) (h : Header) (bytes : List ℕ)
+    (me : Party) (terms : JudgingTerms) (h : Header) (bytes : List ℕ)
     (x : Interchange) →
     outline_of h.delims bytes ≡ Ok x →
     AllByRecursion (λ g. group_is_acknowledgment g ≡ false) x.groups →
-    verdict_told (submission_of h bytes x) (judgement_of me agreements h bytes).verdict
-    ≡ told_by_place (submission_of h bytes x) (judgement_of me agreements h bytes).verdict
+    verdict_told (submission_of h bytes x) (judgement_of me terms h bytes).verdict
+    ≡ told_by_place (submission_of h bytes x) (judgement_of me terms h bytes).verdict

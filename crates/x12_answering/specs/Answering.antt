@@ -11,6 +11,7 @@ use Rattle.x12_envelopes.specs.Header.{header_of}
 use Rattle.x12_envelopes.specs.Fault.{header_fault_number}
 use Rattle.x12_envelopes.specs.Transmission.{AreSlices}
 use Rattle.x12_judge.specs.Agreement.{TradingAgreement}
+use Rattle.x12_judge.specs.Controls.{newest_terms}
 use Rattle.x12_judge.specs.Verdict.{InterchangeJudgement, judgement_of}
 use Rattle.x12_acks.specs.Reply.{due_reply, takes_group_number}
 use Rattle.x12_answering.specs.declared.fault.RunStatus.{RunStatus}
@@ -72,7 +73,7 @@ judged_answer t next place h j =
 abbrev pub answer_by : Terms → NextNumbers → ℕ → List ℕ → Result Header HeaderFault → Answer
 answer_by t next place bytes (Ok h) =
     judged_answer t next place h
-    (judgement_of t.me (agreements_on t.lenient t.pairs h.sender) h bytes)
+    (judgement_of t.me (newest_terms (agreements_on t.lenient t.pairs h.sender)) h bytes)
 answer_by t next place bytes (Err fault) = without_reply next place (header_fault_number fault)
 
 -- the answer to the interchange at a place of a transmission

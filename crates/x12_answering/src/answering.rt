@@ -6,6 +6,7 @@ ghost use Rattle.std.specs.Prelude.{IfErr, OnErr, Err, is_some, unwrap_or, lengt
 ghost use Rattle.std.specs.Io.KnownBytes.{Appends, Keeps};
 ghost use Rattle.x12_envelopes.specs.Header.{header_of};
 ghost use Rattle.x12_envelopes.specs.Writing.{texts};
+ghost use Rattle.x12_judge.specs.Controls.{newest_terms};
 ghost use Rattle.x12_judge.specs.Verdict.{judgement_of, judgement_view};
 ghost use Rattle.x12_answering.specs.Answering.{agreements_on, line_of, IsAnswered, IsAnsweredInPart, terms_in};
 ghost use Rattle.x12_answering.specs.Answering.{first_numbers, replies_in, lines_in, is_incomplete};
@@ -88,7 +89,7 @@ impl Session {
         requires read { header_of bytes.now ≡ Ok header.now }
         ensures judged { let agreed = self.old.agreement in IfOk result (λ j.
             judgement_view j ≡ judgement_of self.old.me
-            (agreements_on agreed.lenient agreed.pairs.items header.now.sender)
+            (newest_terms (agreements_on agreed.lenient agreed.pairs.items header.now.sender))
             header.now bytes.now) }
         ensures terms { session_terms self.new ≡ session_terms self.old }
         ensures numbers { self.new.numbers ≡ self.old.numbers }

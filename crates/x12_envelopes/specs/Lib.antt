@@ -8,6 +8,7 @@ pub mod Moment
 pub mod Header
 pub mod Segment
 pub mod Remaining
+pub mod Repetition
 pub mod Content
 pub mod Shape
 pub mod Outline

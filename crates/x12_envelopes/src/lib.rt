@@ -21,6 +21,7 @@ mod plain_data;
 mod readable;
 mod reading;
 mod remaining;
+mod repetition;
 mod round_trip;
 mod segment;
 mod set_order;

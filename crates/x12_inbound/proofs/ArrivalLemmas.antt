@@ -17,6 +17,7 @@ use Rattle.x12_envelopes.specs.declared.delimiters.Delims.{Delims}
 use Rattle.x12_envelopes.specs.Outline.{outline_of}
 use Rattle.x12_envelopes.specs.Shape.{Interchange, FunctionalGroup}
 use Rattle.x12_judge.specs.Agreement.{TradingAgreement}
+use Rattle.x12_judge.specs.Controls.{JudgingTerms}
 use Rattle.x12_judge.specs.Interchange.{Reading, note_of_interchange}
 use Rattle.x12_judge.specs.Set.{TransactionSetVerdict, set_is_accepted}
 use Rattle.x12_judge.specs.Group.{FunctionalGroupVerdict, refusal_of_group, verdicts_of_sets, verdict_of_group}
@@ -130,12 +131,12 @@ verdict_postings filed None gs rise = record {
 }
 
 -- what a judgement posts
-pub are_postings : (me : Party) (agreements : List TradingAgreement) (h : Header) (bytes : List ℕ) (filed : FiledInterchange)
-    → ArePostingsOf filed (accepted_by_verdict filed.partner filed.icn (judgement_of me agreements h bytes).verdict)
+pub are_postings : (me : Party) (terms : JudgingTerms) (h : Header) (bytes : List ℕ) (filed : FiledInterchange)
+    → ArePostingsOf filed (accepted_by_verdict filed.partner filed.icn (judgement_of me terms h bytes).verdict)
 unfolding judgement_of
-are_postings me agreements h bytes filed =
-    verdict_postings filed (note_of_interchange me h (outline_of h.delims bytes)) (verdicts_of_groups agreements h (outline_of h.delims bytes))
-    (judged_places agreements h (outline_of h.delims bytes))
+are_postings me terms h bytes filed =
+    verdict_postings filed (note_of_interchange terms.controls me h (outline_of h.delims bytes)) (verdicts_of_groups terms.agreements h (outline_of h.delims bytes))
+    (judged_places terms.agreements h (outline_of h.delims bytes))
 
 -- How many sets a judged group has.
 

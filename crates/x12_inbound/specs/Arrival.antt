@@ -5,7 +5,7 @@ use Rattle.x12_envelopes.specs.declared.party.Party.{Party}
 use Rattle.x12_envelopes.specs.declared.header.Header.{Header}
 use Rattle.x12_envelopes.specs.declared.moment.Moment.{Moment}
 use Rattle.x12_envelopes.specs.Header.{header_of}
-use Rattle.x12_judge.specs.Agreement.{TradingAgreement}
+use Rattle.x12_judge.specs.Controls.{JudgingTerms}
 use Rattle.x12_judge.specs.Verdict.{InterchangeJudgement, judgement_of}
 use Rattle.x12_acks.specs.Reply.{due_reply}
 use Rattle.x12_inbound.specs.declared.arrival.Arrived.{Arrived}
@@ -35,17 +35,17 @@ pub record IsDueReply (me : Party) (h : Header) (j : InterchangeJudgement)
   pub gcn : ℕ
   pub is : kept ≡ due_reply h j me at icn gcn
 
--- the judgement is that of the arrived bytes at some station under some agreements, and the reply
--- is the reply to it
+-- the judgement is that of the arrived bytes at some station by some terms, and the reply is the reply
+-- to it
 pub record HasDueReply (a : Arrival) (j : InterchangeJudgement)
     (kept : Option (List ℕ)) : Type 0 where
   pub me : Party
-  pub agreements : List TradingAgreement
+  pub terms : JudgingTerms
   pub header : Header
   pub is_header : header_of a.bytes ≡ Ok header
   pub partner : header.sender ≡ a.partner
   pub icn : header.icn ≡ a.icn
-  pub judgement : j ≡ judgement_of me agreements header a.bytes
+  pub judgement : j ≡ judgement_of me terms header a.bytes
   pub reply : IsDueReply me header j kept
 
 -- what is kept of an interchange: what is filed, and its postings

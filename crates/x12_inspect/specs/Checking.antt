@@ -7,6 +7,7 @@ use Rattle.x12_envelopes.specs.declared.party.Party.{Party}
 use Rattle.x12_envelopes.specs.Header.{header_of}
 use Rattle.x12_envelopes.specs.Outline.{outline_of}
 use Rattle.x12_judge.specs.Agreement.{TradingAgreement}
+use Rattle.x12_judge.specs.Controls.{newest_terms}
 use Rattle.x12_judge.specs.Verdict.{judgement_of}
 use Rattle.x12_inspect.specs.declared.checking.CheckTerms.{CheckTerms}
 use Rattle.x12_inspect.specs.declared.inspecting.Outcome.{Outcome}
@@ -32,7 +33,8 @@ agreements_taken t h bytes = agreements_on t.lenient (pairs_taken t h bytes) h.s
 -- an interchange with this header, or none that can be read, is accepted with all its sets
 abbrev pub is_right_by : CheckTerms → List ℕ → Result Header HeaderFault → Bool
 is_right_by t bytes (Ok h) =
-    is_all_accepted (judgement_of (checking_party t.me h) (agreements_taken t h bytes) h bytes)
+    let terms = newest_terms (agreements_taken t h bytes) in
+    is_all_accepted (judgement_of (checking_party t.me h) terms h bytes)
 is_right_by t bytes (Err fault) = false
 
 -- an interchange that can be read, and is accepted with all its sets

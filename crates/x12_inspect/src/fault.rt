@@ -139,11 +139,19 @@ fn say_trailer(words: &mut Text, note: u16, header: &Header, read: &Outline<'_>)
     }
 }
 
-/// Adds the version of the controls or of their standard, and of which version the file is, if that
-/// is a later one.
-fn say_version(words: &mut Text, name: &str, found: &[u8], version: &[u8; 5]) {
-    say_element(words, name, found);
-    if version.as_slice() > b"00401".as_slice() {
+/// Adds the standard of the controls, and what should stand there, if that isn't `U` alone.
+fn say_standard(words: &mut Text, header: &Header) {
+    say_element(words, "ISA11", &[header.standard]);
+    if header.repetition().is_some() {
+        say!(words; "; with ISA12 ", &header.version, " a repetition separator or U stands there");
+    }
+}
+
+/// Adds the version of the controls, and of which version the file is, if that is a later one than
+/// those that are read.
+fn say_version(words: &mut Text, version: &[u8; 5]) {
+    say_element(words, "ISA12", version);
+    if version.as_slice() > b"00501".as_slice() {
         say!(words; "; the file is of version ", version, "0 (ISA12), and 004010 is read");
     }
 }
@@ -151,8 +159,8 @@ fn say_version(words: &mut Text, name: &str, found: &[u8], version: &[u8; 5]) {
 /// Adds what a note of the header was found in.
 fn say_header(words: &mut Text, note: u16, me: &Party, header: &Header) {
     match note {
-        2 => say_version(words, "ISA11", &[header.standard], &header.version),
-        3 => say_version(words, "ISA12", &header.version, &header.version),
+        2 => say_standard(words, header),
+        3 => say_version(words, &header.version),
         8 => say_address(words, "ISA07 and ISA08", &header.receiver, me),
         14 => say_element(words, "ISA09", &header.date),
         15 => say_element(words, "ISA10", &header.time),

@@ -13,7 +13,7 @@ use crate::text::Text;
 use std::alloc::{AllocError, Global};
 use std::io::Write;
 use x12_answering::RunFault;
-use x12_envelopes::{Delims, Segment, read_header};
+use x12_envelopes::{Header, Segment, read_header};
 use x12_lint::Table;
 use x12_segments::{Compared, Placed, Walk, line_ends};
 
@@ -71,6 +71,7 @@ fn put_placed(
     offset: usize,
     placed: &Placed<'_>,
     table: Option<&Table>,
+    header: &Header,
     read: &Segment<'_>,
 ) {
     out.begin_item();
@@ -81,7 +82,7 @@ fn put_placed(
         put_compared(out, compared);
     }
     if let Some(table) = table {
-        put_elements(out, table, read);
+        put_elements(out, table, header, read);
     }
     out.say("}");
 }
@@ -100,21 +101,21 @@ fn tell_placed(
     terms: &ShowTerms<'_>,
     out: &mut Text,
     offset: usize,
-    delims: &Delims,
+    header: &Header,
     placed: &Placed<'_>,
 ) {
     let read = Segment {
         bytes: placed.bytes,
-        delims: *delims,
+        delims: header.delims,
     };
     match terms.style.form {
         Form::Text => {
             say_placed(out, offset, placed);
             if let Some(table) = terms.table {
-                say_elements(out, table, &read);
+                say_elements(out, table, header, &read);
             }
         }
-        Form::Json => put_placed(out, offset, placed, terms.table, &read),
+        Form::Json => put_placed(out, offset, placed, terms.table, header, &read),
         Form::Csv => {}
     }
 }
@@ -124,30 +125,29 @@ fn tell_segments(
     terms: &ShowTerms<'_>,
     out: &mut Text,
     offset: usize,
-    delims: &Delims,
+    header: &Header,
     mut walk: Walk<'_>,
 ) {
     while let Some(placed) = walk.step() {
-        tell_placed(terms, out, offset, delims, &placed);
+        tell_placed(terms, out, offset, header, &placed);
     }
 }
 
 /// Adds an interchange whose header can be read.
 fn tell_shown(terms: &ShowTerms<'_>, out: &mut Text, offset: usize, at: &Interchange<'_, '_>) {
-    let delims = at.header.delims;
-    let walk = Walk::new(delims, at.bytes);
+    let walk = Walk::new(at.header.delims, at.bytes);
     let style = terms.style;
     match style.form {
         Form::Text => {
             out.interchange(at.place, Some(at.header));
             out.say("\n");
-            tell_segments(terms, out, offset, &delims, walk);
+            tell_segments(terms, out, offset, at.header, walk);
         }
         Form::Json => {
             out.begin_interchange(style.file, at.place);
             out.header_members(at.header);
             out.begin_list("segments");
-            tell_segments(terms, out, offset, &delims, walk);
+            tell_segments(terms, out, offset, at.header, walk);
             out.say("]}\n");
         }
         Form::Csv => {}

@@ -1,5 +1,5 @@
 -- The notes of a segment with element errors, as they are found one after the other.
-use Rattle.std.proofs.Common.{◌≡◌, ◌≤◌, Bool, true, false, not, List, [], ◌∷◌, ◌++◌, length, take, map, Option, Some, None, option_map, refl, ap, sym, ◌∙◌, append_assoc}
+use Rattle.std.proofs.Common.{◌≡◌, ◌≤◌, Bool, true, false, not, List, [], ◌∷◌, ◌++◌, length, map, Option, Some, None, option_map, refl, ap, sym, ◌∙◌}
 use Rattle.std.specs.List.{cons_option}
 use Rattle.x12_envelopes.specs.Row.{held_of_rows}
 use Rattle.x12_judge.specs.Note.{opening, with_errors}

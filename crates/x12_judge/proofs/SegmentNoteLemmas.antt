@@ -1,7 +1,7 @@
 -- The rows of a segment's notes, as they are kept one after the other.
 use Rattle.std.proofs.Common.{◌≡◌, ℕ, ◌≤◌, Bool, true, false, not, ◌&&◌, List, [], ◌∷◌, ◌++◌, length, take, if◌then◌else◌, flat_map, ◌==◌, refl, ap, sym, ◌∙◌, suc, arith}
 use Rattle.std.proofs.lemmas.Bool.Decides.{nat_tests}
-use Rattle.std.proofs.lemmas.List.{append-nil, take_all}
+use Rattle.std.proofs.lemmas.List.{append-nil}
 use Rattle.std.proofs.lemmas.Slice.Eq.{bytes_eq-Decides}
 use Rattle.x12_envelopes.specs.Row.{held_of_rows}
 use Rattle.x12_judge.specs.declared.verdict.SegmentCode.{SegmentCode}

@@ -1,11 +1,11 @@
 -- The notes of a transaction set, kept segment by segment.
-use Rattle.std.proofs.Common.{◌≡◌, ℕ, ◌+◌, ◌==◌, Bool, true, false, ◌||◌, not, List, [], ◌∷◌, ◌++◌, length, take, suc, flat_map, refl, ap, sym, ◌∙◌, append_assoc, arith}
+use Rattle.std.proofs.Common.{◌≡◌, ℕ, ◌+◌, ◌==◌, Bool, true, false, ◌||◌, not, List, [], ◌∷◌, ◌++◌, length, take, suc, flat_map, refl, ap, sym, ◌∙◌, arith}
 use Rattle.std.proofs.lemmas.Bool.Decides.{nat_tests}
 use Rattle.std.proofs.lemmas.Grind.{flat_map-append}
 use Rattle.x12_envelopes.specs.Row.{held_of_rows}
 use Rattle.x12_judge.specs.declared.verdict.SegmentCode.{SegmentCode}
 use Rattle.x12_judge.specs.Segment.{SegmentNote, note_on_segment}
-use Rattle.x12_judge.specs.Set.{ReportedNote, reported, segment}
+use Rattle.x12_judge.specs.Set.{reported, segment}
 use Rattle.x12_judge.specs.Keeping.{KeptNotes, keeping}
 use Rattle.x12_judge.proofs.KeptNoteLemmas.{keeping_twice}
 

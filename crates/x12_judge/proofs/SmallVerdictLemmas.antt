@@ -13,7 +13,9 @@ use Rattle.x12_envelopes.specs.Grammar.{GroupTree, group_meant, set_meant, sets_
 use Rattle.x12_envelopes.specs.Outline.{outline_of}
 use Rattle.x12_envelopes.specs.Shape.{TransactionSet, FunctionalGroup, Interchange}
 use Rattle.x12_envelopes.proofs.FoundTreeLemmas.{trees_alone}
+use Rattle.x12_judge.specs.declared.controls.Controls.{Controls}
 use Rattle.x12_judge.specs.Agreement.{TradingAgreement}
+use Rattle.x12_judge.specs.Controls.{JudgingTerms}
 use Rattle.x12_judge.specs.Interchange.{Reading, note_rows, note_of_interchange}
 use Rattle.x12_judge.specs.Set.{verdict_of_set, codes_of_set, code_rows, codes_by, is_repeated, notes_of_set, reported}
 use Rattle.x12_judge.specs.Group.{FunctionalGroupVerdict, verdict_of_group, verdicts_of_sets, refusal_of_group}
@@ -116,18 +118,18 @@ small_row (row ∷ rows) small = one row.0 small.0 (small_row rows small.1)
     one true here later = here
     one false here later = later
 
-small_note : (me : Party) (h : Header) (read : Reading) → MatchOption (note_of_interchange me h read) (Unit {0}) (λ m. m ≤ 999)
+small_note : (controls : Controls) (me : Party) (h : Header) (read : Reading) → MatchOption (note_of_interchange controls me h read) (Unit {0}) (λ m. m ≤ 999)
 unfolding note_of_interchange
-small_note me h read =
-    small_row (note_rows me h read)
+small_note controls me h read =
+    small_row (note_rows controls me h read)
     (omega arith, (omega arith, (omega arith, (omega arith, (omega arith, (omega arith, (omega arith, (omega arith, (omega arith, (omega arith, (omega arith, (omega arith, tt))))))))))))
 
 small_by : (note : Option ℕ) (gs : List FunctionalGroupVerdict) → MatchOption note (Unit {0}) (λ m. m ≤ 999) → AreFewVerdicts gs → IsSmallVerdict (verdict_by note gs)
 small_by (Some note) gs small few = small
 small_by None gs small few = few
 
-pub judgement_is_small : (me : Party) (agreements : List TradingAgreement) (h : Header) (bytes : List ℕ) → IsSmallVerdict (judgement_of me agreements h bytes).verdict
+pub judgement_is_small : (me : Party) (terms : JudgingTerms) (h : Header) (bytes : List ℕ) → IsSmallVerdict (judgement_of me terms h bytes).verdict
 unfolding judgement_of
-judgement_is_small me agreements h bytes =
+judgement_is_small me terms h bytes =
     let read = outline_of h.delims bytes in
-    small_by (note_of_interchange me h read) (verdicts_of_groups agreements h read) (small_note me h read) (few_verdicts agreements h bytes read refl)
+    small_by (note_of_interchange terms.controls me h read) (verdicts_of_groups terms.agreements h read) (small_note terms.controls me h read) (few_verdicts terms.agreements h bytes read refl)

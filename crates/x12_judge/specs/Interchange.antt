@@ -1,6 +1,6 @@
 -- The note of an interchange (X12.5, TA105): why it is refused as a whole.
 use Rattle.std.specs.Prelude.{ℕ, Bool, true, false, ◌&&◌, not, List, [], ◌∷◌, length, drop, Option}
-use Rattle.std.specs.Prelude.{Some, None, Result, Ok, Err, ◌==◌, nat_le, codes}
+use Rattle.std.specs.Prelude.{Some, None, Result, Ok, Err, ◌==◌, codes}
 use Rattle.x12_envelopes.specs.declared.party.Party.{Party}
 use Rattle.x12_envelopes.specs.declared.delimiters.Delims.{Delims}
 use Rattle.x12_envelopes.specs.declared.header.Header.{Header}
@@ -9,11 +9,13 @@ use Rattle.x12_envelopes.specs.declared.shape.OutlineFault.{OutlineFault}
 use Rattle.x12_envelopes.specs.declared.shape.OutlineFault.TheVariants.{Structure, Premature}
 use Rattle.x12_envelopes.specs.declared.shape.OutlineFault.TheVariants.{Content, Memory}
 use Rattle.x12_envelopes.specs.Row.{first_of_rows}
-use Rattle.x12_envelopes.specs.Letter.{letter, is_one_of}
-use Rattle.x12_envelopes.specs.Byte.{number_of_digits}
+use Rattle.x12_envelopes.specs.Letter.{is_one_of}
 use Rattle.x12_envelopes.specs.Moment.{text_is_date, text_is_time}
 use Rattle.x12_envelopes.specs.Shape.{Interchange, outline_view}
+use Rattle.x12_judge.specs.declared.controls.Controls.{Controls}
+use Rattle.x12_judge.specs.declared.controls.Controls.TheVariants.{Until501}
 use Rattle.x12_judge.specs.Agreement.{is_same_party}
+use Rattle.x12_judge.specs.Controls.{standard_is_unsupported, version_is_supported}
 
 -- an interchange that was read, or the fault that ended its reading
 abbrev pub Reading : Type 0
@@ -28,15 +30,6 @@ reading_view d (Err fault) = Err fault
 abbrev pub reading_is_memory_fault : Result Outline OutlineFault → Bool
 reading_is_memory_fault (Err Memory) = true
 reading_is_memory_fault reading = false
-
--- a number that is a supported version of the interchange controls: 200 to 401
-abbrev pub is_supported_number : Option ℕ → Bool
-is_supported_number None = false
-is_supported_number (Some n) = nat_le 200 n && nat_le n 401
-
--- a version of the interchange controls, of five bytes, that is supported: 00200 to 00401
-abbrev pub version_is_supported : List ℕ → Bool
-version_is_supported version = is_supported_number (number_of_digits version)
 
 -- reading ended at a control byte or at a misplaced segment
 abbrev pub reading_is_structure_fault : Reading → Bool
@@ -69,11 +62,11 @@ reading_has_wrong_group_count (Ok x) = not (value_is_number (length x.groups) x.
 reading_has_wrong_group_count (Err fault) = false
 
 -- the rows of TA105: each a condition and its note
-abbrev pub note_rows : Party → Header → Reading → List (Bool × ℕ)
-note_rows me h reading =
+abbrev pub note_rows : Controls → Party → Header → Reading → List (Bool × ℕ)
+note_rows controls me h reading =
     (not (is_same_party h.receiver me), 8)  -- invalid interchange receiver identifier
-    ∷ (not (h.standard == letter (codes "U")), 2)  -- standard not supported
-    ∷ (not (version_is_supported h.version), 3)  -- version of the controls not supported
+    ∷ (standard_is_unsupported controls h, 2)  -- standard not supported
+    ∷ (not (version_is_supported controls h.version), 3)  -- version of the controls not supported
     ∷ (not (text_is_date h.date), 14)  -- invalid interchange date
     ∷ (not (text_is_time h.time), 15)  -- invalid interchange time
     ∷ (not (is_one_of (codes "01") h.ack), 19)  -- invalid acknowledgment requested
@@ -85,18 +78,18 @@ note_rows me h reading =
     ∷ (reading_has_wrong_group_count reading, 21)  -- invalid number of included groups
     ∷ []
 
--- the rows behind those on the receiver, the standard and the version: they ask for no station, so
--- the header's own receiver stands in its place
+-- the rows behind those on the receiver, the standard and the version: they ask for no station and no
+-- controls, so the header's own receiver and the newest controls stand in their place
 abbrev pub rows_of_fields : Header → Reading → List (Bool × ℕ)
-rows_of_fields h reading = drop 3 (note_rows h.receiver h reading)
+rows_of_fields h reading = drop 3 (note_rows Until501 h.receiver h reading)
 
 -- the rows on what was read, behind those on the header
 abbrev pub rows_of_reading : Header → Reading → List (Bool × ℕ)
 rows_of_reading h reading = drop 4 (rows_of_fields h reading)
 
 -- the note of an interchange at this station: the first row whose condition holds
-unfoldable pub note_of_interchange : Party → Header → Reading → Option ℕ
-note_of_interchange me h reading = first_of_rows (note_rows me h reading)
+unfoldable pub note_of_interchange : Controls → Party → Header → Reading → Option ℕ
+note_of_interchange controls me h reading = first_of_rows (note_rows controls me h reading)
 
 -- an interchange that is never answered: it was read, and holds TA1s and no group
 unfoldable pub reading_is_silent : Reading → Bool

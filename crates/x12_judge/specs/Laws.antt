@@ -10,7 +10,7 @@ use Rattle.x12_envelopes.specs.declared.party.Party.{Party}
 use Rattle.x12_envelopes.specs.declared.header.Header.{Header}
 use Rattle.x12_envelopes.specs.Outline.{outline_of}
 use Rattle.x12_envelopes.specs.Shape.{Interchange, TransactionSet}
-use Rattle.x12_judge.specs.Agreement.{TradingAgreement}
+use Rattle.x12_judge.specs.Controls.{JudgingTerms}
 use Rattle.x12_judge.specs.Code.{segment_code_number}
 use Rattle.x12_judge.specs.Segment.{SegmentNote, ElementNote}
 use Rattle.x12_judge.specs.Set.{TransactionSetVerdict, notes_of_set}
@@ -36,15 +36,15 @@ IsSmallVerdict (judged groups) = AreFewVerdicts groups
 -- what an interchange deserves is small, whatever its bytes
 abbrev pub JudgementsAreSmall : Type 0
 JudgementsAreSmall =
-    (me : Party) (agreements : List TradingAgreement) (h : Header) (bytes : List ℕ)
-    → IsSmallVerdict (judgement_of me agreements h bytes).verdict
+    (me : Party) (terms : JudgingTerms) (h : Header) (bytes : List ℕ)
+    → IsSmallVerdict (judgement_of me terms h bytes).verdict
 
 -- an interchange that is judged group by group has an outline
 abbrev pub JudgedIsRead : Type 0
 JudgedIsRead =
-    (me : Party) (agreements : List TradingAgreement) (h : Header) (bytes : List ℕ)
+    (me : Party) (terms : JudgingTerms) (h : Header) (bytes : List ℕ)
     (groups : List FunctionalGroupVerdict)
-    → (judgement_of me agreements h bytes).verdict ≡ judged groups
+    → (judgement_of me terms h bytes).verdict ≡ judged groups
     → (x : Interchange) × (outline_of h.delims bytes ≡ Ok x)
 
 -- A note on a segment (AK3) stands before another: by the segment's position, then by what is wrong

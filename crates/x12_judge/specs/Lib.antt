@@ -1,4 +1,5 @@
 pub mod Agreement
+pub mod Controls
 pub mod Interchange
 pub mod Laws
 pub mod Element

@@ -15,6 +15,7 @@ use Rattle.x12_judge.specs.declared.verdict.Verdict.{Verdict}
 use Rattle.x12_judge.specs.declared.verdict.Verdict.TheVariants.{Refused, Judged}
 use Rattle.x12_judge.specs.declared.verdict.Judgement.{Judgement}
 use Rattle.x12_judge.specs.Agreement.{TradingAgreement}
+use Rattle.x12_judge.specs.Controls.{JudgingTerms}
 use Rattle.x12_judge.specs.Interchange.{Reading, note_of_interchange, reading_is_silent}
 use Rattle.x12_judge.specs.Set.{TransactionSetVerdict, ReportedNote, segment, element}
 use Rattle.x12_judge.specs.Group.{FunctionalGroupVerdict, verdict_of_group}
@@ -47,17 +48,17 @@ verdict_by (Some note) groups = refused note
 verdict_by None groups = judged groups
 
 -- what an interchange with this header deserves, by its outline or the fault that ended its reading
-abbrev pub judgement_by :
-    Party → List TradingAgreement → Header → Reading → InterchangeJudgement
-judgement_by me agreements h reading = record {
+abbrev pub judgement_by : Party → JudgingTerms → Header → Reading → InterchangeJudgement
+judgement_by me terms h reading = record {
   silent = reading_is_silent reading;
-  verdict = verdict_by (note_of_interchange me h reading) (verdicts_of_groups agreements h reading);
+  verdict =
+      verdict_by (note_of_interchange terms.controls me h reading)
+      (verdicts_of_groups terms.agreements h reading);
 }
 
--- what an interchange with this header deserves at this station, under these agreements
-unfoldable pub judgement_of :
-    Party → List TradingAgreement → Header → List ℕ → InterchangeJudgement
-judgement_of me agreements h bytes = judgement_by me agreements h (outline_of h.delims bytes)
+-- what an interchange with this header deserves at this station, by these terms
+unfoldable pub judgement_of : Party → JudgingTerms → Header → List ℕ → InterchangeJudgement
+judgement_of me terms h bytes = judgement_by me terms h (outline_of h.delims bytes)
 
 -- What the code's judgement stands for.
 

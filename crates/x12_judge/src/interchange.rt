@@ -7,24 +7,15 @@ ghost use Rattle.x12_judge.specs.Interchange.{Reading, reading_has_other_number}
 ghost use Rattle.x12_judge.specs.Interchange.{reading_has_wrong_group_count, note_of_interchange};
 ghost use Rattle.x12_judge.specs.Interchange.{reading_is_content_fault, reading_is_memory_fault};
 ghost use Rattle.x12_judge.specs.Interchange.{reading_is_premature_end, reading_is_silent};
-ghost use Rattle.x12_judge.specs.Interchange.{reading_is_structure_fault, version_is_supported};
+ghost use Rattle.x12_judge.specs.Interchange.{reading_is_structure_fault};
 ghost use Rattle.x12_judge.specs.Interchange.{reading_view, rows_of_fields, rows_of_reading};
 
+use crate::controls::Controls;
 use crate::group::is_number;
-use x12_envelopes::{Header, Outline, OutlineFault, Party, is_date, is_time, number_of};
+use x12_envelopes::{Header, Outline, OutlineFault, Party, is_date, is_time};
 
 /// An interchange that was read, or the fault that ended its reading.
 pub type Reading<'a> = Result<Outline<'a>, OutlineFault>;
-
-/// Whether a version of the interchange controls is supported: 00200 to 00401.
-fn is_supported(version: &[u8]) -> bool
-    ensures { result ≡ version_is_supported version.now }
-{
-    match number_of(version) {
-        Some(n) => n >= 200 && n <= 401,
-        None => false,
-    }
-}
 
 /// Whether memory ran out while an interchange was read.
 pub(crate) fn is_memory_fault(reading: &Reading<'_>) -> bool
@@ -146,17 +137,22 @@ fn note_of_fields(header: &Header, reading: &Reading<'_>) -> Option<u16>
 
 /// The note of an interchange at this station, as a number: the first row whose condition holds.
 #[tactic(auto, unfolding(crate::specs::Interchange::note_of_interchange))]
-pub(crate) fn note_number(me: &Party, header: &Header, reading: &Reading<'_>) -> Option<u16>
-    ensures { result
-        ≡ note_of_interchange me.now header.now (reading_view header.now.delims reading.now) }
+pub(crate) fn note_number(
+    me: &Party,
+    controls: Controls,
+    header: &Header,
+    reading: &Reading<'_>,
+) -> Option<u16>
+    ensures { let read = reading_view header.now.delims reading.now in
+        result ≡ note_of_interchange controls me.now header.now read }
 {
     if header.receiver != *me {
         return Some(8);
     }
-    if header.standard != b'U' {
+    if controls.refuses_standard(header) {
         return Some(2);
     }
-    if !is_supported(&header.version) {
+    if !controls.takes_version(&header.version) {
         return Some(3);
     }
     note_of_fields(header, reading)

@@ -6,6 +6,7 @@ ghost use Rattle.std.specs.List.{All, enumerate_from};
 ghost use Rattle.x12_envelopes.specs.Header.{header_of};
 ghost use Rattle.x12_envelopes.specs.Shape.{group_view};
 ghost use Rattle.x12_judge.specs.Agreement.{agreement_view};
+ghost use Rattle.x12_judge.specs.Controls.{JudgingTerms, newest_terms};
 ghost use Rattle.x12_judge.specs.Bound.{IsReadOf, IsSmall, IsSmallGroup};
 ghost use Rattle.x12_judge.specs.Group.{verdict_of_group};
 ghost use Rattle.x12_judge.specs.Interchange.{reading_view};
@@ -15,6 +16,7 @@ ghost use Rattle.x12_judge.specs.Verdict.{group_is_acknowledgment, judgement_by}
 ghost use Rattle.x12_judge.specs.Verdict.{judgement_of, judgement_view};
 
 use crate::agreement::Agreement;
+use crate::controls::Controls;
 use crate::group::group_verdict;
 use crate::interchange::{Reading, is_memory_fault, is_silent, note_number};
 use crate::verdict::{GroupVerdict, Judgement, Note, Verdict};
@@ -119,23 +121,25 @@ pub fn read_interchange<'a>(
     Ok(reading)
 }
 
-/// What an interchange deserves at this station, under these agreements, by what was read of it, as
-/// `read_interchange` gives it: refused with a note (X12.5, TA105), or judged group by group (997).
+/// What an interchange deserves at this station, under these agreements and controls, by what was read
+/// of it, as `read_interchange` gives it: refused with a note (X12.5, TA105), or judged group by group (997).
 /// Answers an error for want of memory alone.
 pub fn judge_reading<'a>(
     alloc: Global,
     me: &Party,
     agreements: &[Agreement],
+    controls: Controls,
     header: &Header,
     reading: &Reading<'a>,
 ) -> Result<Judgement<'a>, AllocError>
     requires small { IfOk reading.now IsSmall }
     ensures { let ags = map agreement_view agreements.now in
+        let terms : JudgingTerms = record { agreements = ags; controls = controls } in
         let read = reading_view header.now.delims reading.now in
-        IfOk result (λ j. judgement_view j ≡ judgement_by me.now ags header.now read) }
+        IfOk result (λ j. judgement_view j ≡ judgement_by me.now terms header.now read) }
 {
     let silent = is_silent(reading, header);
-    if let Some(note) = note_number(me, header, reading) {
+    if let Some(note) = note_number(me, controls, header, reading) {
         return Ok(Judgement {
             silent,
             verdict: Verdict::Refused(Note(note)),
@@ -148,11 +152,31 @@ pub fn judge_reading<'a>(
     })
 }
 
-/// What an interchange deserves at this station, under these agreements: refused with a note
-/// (X12.5, TA105), or judged group by group (997). The header is that of the bytes, as
+/// What an interchange deserves at this station, under these agreements and controls: refused with a
+/// note (X12.5, TA105), or judged group by group (997). The header is that of the bytes, as
 /// `read_header` gives it. Notes 009 and 025 are never given: they are for those who know more than
 /// one interchange. A judgement has at most 32 groups and 400 transaction sets in all. Answers an
 /// error for want of memory alone.
+pub fn judge_by<'a>(
+    alloc: Global,
+    me: &Party,
+    agreements: &[Agreement],
+    controls: Controls,
+    bytes: &'a [u8],
+    header: &Header,
+) -> Result<Judgement<'a>, AllocError>
+    requires read { header_of bytes.now ≡ Ok header.now }
+    ensures verdict { let ags = map agreement_view agreements.now in
+        let terms : JudgingTerms = record { agreements = ags; controls = controls } in
+        IfOk result (λ j. judgement_view j ≡ judgement_of me.now terms header.now bytes.now) }
+    ensures small { IfOk result (λ j. IsSmallVerdict (judgement_view j).verdict) }
+{
+    let reading = read_interchange(alloc, bytes, header)?;
+    judge_reading(alloc, me, agreements, controls, header, &reading)
+}
+
+/// What an interchange deserves at this station, under these agreements and the newest controls, as
+/// `judge_by` gives it. Answers an error for want of memory alone.
 pub fn judge<'a>(
     alloc: Global,
     me: &Party,
@@ -161,10 +185,9 @@ pub fn judge<'a>(
     header: &Header,
 ) -> Result<Judgement<'a>, AllocError>
     requires read { header_of bytes.now ≡ Ok header.now }
-    ensures verdict { let ags = map agreement_view agreements.now in
-        IfOk result (λ j. judgement_view j ≡ judgement_of me.now ags header.now bytes.now) }
+    ensures verdict { let terms = newest_terms (map agreement_view agreements.now) in
+        IfOk result (λ j. judgement_view j ≡ judgement_of me.now terms header.now bytes.now) }
     ensures small { IfOk result (λ j. IsSmallVerdict (judgement_view j).verdict) }
 {
-    let reading = read_interchange(alloc, bytes, header)?;
-    judge_reading(alloc, me, agreements, header, &reading)
+    judge_by(alloc, me, agreements, Controls::Until501, bytes, header)
 }

@@ -4,6 +4,7 @@
 mod agreement;
 mod body;
 mod code;
+mod controls;
 mod element;
 mod elements;
 mod group;
@@ -17,9 +18,10 @@ mod set;
 mod verdict;
 
 pub use agreement::Agreement;
+pub use controls::Controls;
 pub use element::{ElementRule, Form, element_rules};
 pub use interchange::Reading;
-pub use judging::{judge, judge_reading, read_interchange};
+pub use judging::{judge, judge_by, judge_reading, read_interchange};
 pub use laws::{judged_is_read, judgements_are_small, notes_rise};
 pub use verdict::{
     ElementCode, GroupRefusal, GroupVerdict, Judgement, Note, SegmentCode, SetCode, SetCodes,

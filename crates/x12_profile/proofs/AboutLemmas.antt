@@ -15,6 +15,7 @@ use Rattle.x12_envelopes.specs.Envelope.{WrittenGroup, WrittenSet, element_at}
 use Rattle.x12_envelopes.specs.Readable.{HeaderNumberIsReadable}
 use Rattle.x12_envelopes.specs.Shape.{Interchange, FunctionalGroup}
 use Rattle.x12_judge.specs.Agreement.{TradingAgreement}
+use Rattle.x12_judge.specs.Controls.{JudgingTerms}
 use Rattle.x12_judge.specs.Interchange.{note_of_interchange}
 use Rattle.x12_judge.specs.Verdict.{InterchangeVerdict, refused, judged, judgement_of, verdicts_of_groups, verdict_by, group_is_acknowledgment}
 use Rattle.x12_numbers.proofs.Shelf.{all_append, none_in_nil, contains_cons, contains_head, contains_tail, contains_in_filter, contains_mapped}
@@ -25,6 +26,7 @@ use Rattle.x12_acks.specs.Reply.{reply_of, reply_to, reply_tas, judged_groups, a
 use Rattle.x12_acks.specs.Statement.{Statement, st, ak1}
 use Rattle.x12_acks.specs.Submission.{SubmittedGroup, submission_of, submitted_group}
 use Rattle.x12_profile.specs.declared.edition.Edition.{Edition}
+use Rattle.x12_profile.specs.Edition.{terms_by}
 use Rattle.x12_profile.specs.Interchange.{Bytes, PlacedEvidence}
 use Rattle.x12_profile.specs.Laws.{IsReply, SharesGroup}
 use Rattle.x12_profile.specs.Reading.{answers_in}
@@ -102,7 +104,7 @@ together n ps (unclear ∷ answers) tas groups = (tt, together n ps answers tas.
 
 -- What the segments of a reply answer.
 
-module _ (me : Party) (a : List TradingAgreement) (h : Header) (b : Bytes) (at : Moment) (icn gcn : ℕ) where
+module _ (me : Party) (a : JudgingTerms) (h : Header) (b : Bytes) (at : Moment) (icn gcn : ℕ) where
   abbrev v : InterchangeVerdict
   v = (judgement_of me a h b).verdict
 
@@ -128,7 +130,7 @@ module _ (me : Party) (a : List TradingAgreement) (h : Header) (b : Bytes) (at :
 
   none_judged : (f : OutlineFault) → outline_of h.delims b ≡ Err f → judged_groups v ≡ []
   unfolding judgement_of verdicts_of_groups
-  none_judged f is = rw is (by (note_of_interchange me h (Err f)))
+  none_judged f is = rw is (by (note_of_interchange a.controls me h (Err f)))
     where
       by : (n : Option ℕ) → judged_groups (verdict_by n []) ≡ []
       by (Some n) = refl
@@ -168,8 +170,8 @@ module _ (g : Below) (me : Party) (a : List TradingAgreement) (b r : Bytes) (w :
   answered_in (Err f) = []
 
   all_answered : (o : Result Interchange OutlineFault) → outline_of hb.delims b ≡ o → AllByRecursion (IsTo hb.icn (answered_in o)) (answers_in r)
-  all_answered (Ok o) is = subst (AllByRecursion (IsTo hb.icn (answered_groups o))) (sym (reply.answers_are g me a b r w)) (answered me a hb b w.at w.book.interchange w.book.group g.places g.number known o is)
-  all_answered (Err f) is = subst (AllByRecursion (IsTo hb.icn [])) (sym (reply.answers_are g me a b r w)) (answered_none me a hb b w.at w.book.interchange w.book.group g.number known f is)
+  all_answered (Ok o) is = subst (AllByRecursion (IsTo hb.icn (answered_groups o))) (sym (reply.answers_are g me a b r w)) (answered me (terms_by w.edition a) hb b w.at w.book.interchange w.book.group g.places g.number known o is)
+  all_answered (Err f) is = subst (AllByRecursion (IsTo hb.icn [])) (sym (reply.answers_are g me a b r w)) (answered_none me (terms_by w.edition a) hb b w.at w.book.interchange w.book.group g.number known f is)
 
   module _ (x : Bytes) (h : Header) (o : Interchange) (is : header_of x ≡ Ok h) (there : outline_of h.delims x ≡ Ok o) where
     -- a group that is answered, and a group of x of its code and number

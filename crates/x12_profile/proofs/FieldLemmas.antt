@@ -25,17 +25,18 @@ use Rattle.x12_profile.specs.Interchange.{Bytes, PlaceOfSet, Book, Order}
 use Rattle.x12_profile.specs.Reading.{header_in, outline_in, answers_in, if_ok}
 use Rattle.x12_profile.specs.Order.{order_interchange}
 use Rattle.x12_profile.specs.declared.edition.Edition.{Edition}
+use Rattle.x12_profile.specs.Edition.{terms_by}
 use Rattle.x12_profile.specs.X12.{x12, accepted_in, noted_in, pieces_read, result_at, group_numbers, is_order_outline, is_refused, judged_by, needs_of, sets_by_place, submission_in_bytes, told_by_piece}
 
--- by each edition so far
-pub is_first : (ed : Edition) (me : Party) (a : List TradingAgreement) (h : Header) (b : Bytes) → judged_by ed me a h b ≡ judgement_of me a h b
+-- by the terms of each edition
+pub is_first : (ed : Edition) (me : Party) (a : List TradingAgreement) (h : Header) (b : Bytes) → judged_by ed me a h b ≡ judgement_of me (terms_by ed a) h b
 is_first ed me a h b = refl
 
 -- what was read of bytes says what they deserve
 pub judged_as_read : (ed : Edition) (me : Party) (a : List TradingAgreement) (h : Header) (b : Bytes) (r : Result Outline OutlineFault)
-    → IsReadOf b h r → judgement_by me a h (reading_view h.delims r) ≡ judged_by ed me a h b
+    → IsReadOf b h r → judgement_by me (terms_by ed a) h (reading_view h.delims r) ≡ judged_by ed me a h b
 unfolding judgement_of
-judged_as_read ed me a h b r read = ap (judgement_by me a h) read.is
+judged_as_read ed me a h b r read = ap (judgement_by me (terms_by ed a) h) read.is
 
 -- bytes with a header
 pub header_known : (b : Bytes) → IsTrue (x12.has_header b) → (h : Header) × (header_of b ≡ Ok h)

@@ -14,7 +14,7 @@ use Rattle.x12_acks.specs.Evidence.{FinalFate, Evidence as Piece, tells, unmatch
 use Rattle.x12_judge.specs.declared.verdict.SetResult.{SetResult}
 use Rattle.x12_judge.specs.declared.verdict.SetResult.TheVariants.{Rejected}
 use Rattle.x12_profile.specs.declared.edition.Edition.{Edition}
-use Rattle.x12_profile.specs.declared.edition.Edition.TheVariants.{First, Second}
+use Rattle.x12_profile.specs.declared.edition.Edition.TheVariants.{First, Second, Third}
 use Rattle.x12_profile.specs.Edition.{fate_read}
 use Rattle.x12_acks.specs.Submission.{Submission, KeyedSet, keyed_set, keyed_group, keyed_groups, keyed_sets, submission_of, submitted_group, submitted_set}
 use Rattle.x12_acks.specs.Told.{told_at}
@@ -40,9 +40,11 @@ placed_before e = record { place = e.place; fate = fate_read First e.fate }
 abbrev pub placed_read : Edition → List PlacedEvidence → List PlacedEvidence
 placed_read First es = map placed_before es
 placed_read Second es = es
+placed_read Third es = es
 
 pub told_as_read : (ed : Edition) (pieces : List Piece) → flat_map told_by_piece (pieces_read ed pieces) ≡ placed_read ed (flat_map told_by_piece pieces)
 told_as_read Second pieces = refl
+told_as_read Third pieces = refl
 told_as_read First [] = refl
 told_as_read First (tells key fate ∷ pieces) = ap (λ (es : List PlacedEvidence). record { place = record { group = key.group; set = key.set }; fate = fate_read First fate } ∷ es) (told_as_read First pieces)
 told_as_read First (unmatched ∷ pieces) = told_as_read First pieces
@@ -50,12 +52,14 @@ told_as_read First (unmatched ∷ pieces) = told_as_read First pieces
 -- the verdict of each set, as it is read
 pub verdict_read : (ed : Edition) (v : PlaceOfSet → SetResult) (sets : List PlacedTransactionSet) → placed_read ed (map (λ s. record { place = s.place; fate = fate_of_result (v s.place) }) sets) ≡ evidence_by ed v sets
 verdict_read Second v sets = refl
+verdict_read Third v sets = refl
 verdict_read First v [] = refl
 verdict_read First v (s ∷ sets) = ap (λ (es : List PlacedEvidence). record { place = s.place; fate = fate_read First (fate_of_result (v s.place)) } ∷ es) (verdict_read First v sets)
 
 -- what is read was told
 pub was_told : (ed : Edition) (es : List PlacedEvidence) (e : PlacedEvidence) → Contains (placed_read ed es) e → (f : PlacedEvidence) × Contains es f
 was_told Second es e h = (e, h)
+was_told Third es e h = (e, h)
 was_told First [] e h = none_in_nil e h
 was_told First (f ∷ es) e h = elim (contains_cons e (placed_before f) (map placed_before es) h) [
   | inl same ↦ (f, contains_head f es)
@@ -66,6 +70,7 @@ was_told First (f ∷ es) e h = elim (contains_cons e (placed_before f) (map pla
 pub none_read : (ed : Edition) → placed_read ed [] ≡ []
 none_read First = refl
 none_read Second = refl
+none_read Third = refl
 
 abbrev keyed_from : Submission → ℕ → ℕ → List ReadSet → List KeyedSet
 keyed_from e group m ss = map (λ s. keyed_set e group s.0 s.1) (enumerate_from m (map submitted_set ss))

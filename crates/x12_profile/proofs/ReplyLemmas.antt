@@ -16,6 +16,7 @@ use Rattle.x12_envelopes.specs.Party.{is_plain_party}
 use Rattle.x12_envelopes.specs.RoundTrip.{written_group_outline}
 use Rattle.x12_envelopes.specs.Shape.{Interchange, FunctionalGroup}
 use Rattle.x12_judge.specs.Agreement.{TradingAgreement, is_same_party}
+use Rattle.x12_judge.specs.Controls.{JudgingTerms}
 use Rattle.x12_judge.specs.Group.{FunctionalGroupVerdict}
 use Rattle.x12_judge.specs.Interchange.{note_of_interchange}
 use Rattle.x12_judge.specs.Verdict.{judgement_of, verdict_by, verdicts_of_groups, group_is_acknowledgment}
@@ -27,6 +28,7 @@ use Rattle.x12_acks.specs.Laws.{written_answers}
 use Rattle.x12_acks.specs.Reply.{reply_of, reply_to, reply_tas, answer_groups, judged_groups}
 use Rattle.x12_profile.specs.Interchange.{Bytes, PlaceOfSet}
 use Rattle.x12_profile.specs.declared.edition.Edition.{Edition}
+use Rattle.x12_profile.specs.Edition.{terms_by}
 use Rattle.x12_profile.specs.Laws.{IsReply}
 use Rattle.x12_profile.specs.Reading.{answers_in}
 use Rattle.x12_profile.specs.X12.{x12, accepted_in, noted_in, result_at, group_numbers, is_refused}
@@ -62,18 +64,18 @@ none_enumerated n (z ∷ gs) e = by (group_is_acknowledgment z) e (none_enumerat
     by true e more = more e
     by false e more = absurd cc
 
-module _ (me : Party) (a : List TradingAgreement) (h : Header) (b : Bytes) where
+module _ (me : Party) (a : JudgingTerms) (h : Header) (b : Bytes) where
   -- the sets whose result by the verdict passes a test
   abbrev pub kept : (SetResult → Bool) → List AcceptedSet
   kept test = sets_by_verdict test h.sender h.icn (judgement_of me a h b).verdict
 
   pub none_of_fault : (test : SetResult → Bool) (f : OutlineFault) → outline_of h.delims b ≡ Err f → kept test ≡ []
   unfolding judgement_of verdicts_of_groups
-  none_of_fault test f is = rw is (none_by test h.sender h.icn (note_of_interchange me h (Err f)))
+  none_of_fault test f is = rw is (none_by test h.sender h.icn (note_of_interchange a.controls me h (Err f)))
 
   none_of_none : (test : SetResult → Bool) (o : Interchange) → outline_of h.delims b ≡ Ok o → group_numbers o ≡ [] → kept test ≡ []
   unfolding judgement_of verdicts_of_groups
-  none_of_none test o is none = rw (is, none_enumerated 1 o.groups none) (none_by test h.sender h.icn (note_of_interchange me h (Ok o)))
+  none_of_none test o is none = rw (is, none_enumerated 1 o.groups none) (none_by test h.sender h.icn (note_of_interchange a.controls me h (Ok o)))
 
   none_of_other : (test : SetResult → Bool) → is_same_party h.receiver me ≡ false → kept test ≡ []
   unfolding judgement_of note_of_interchange sets_by_verdict
@@ -92,8 +94,12 @@ module _ (g : Below) (me : Party) (a : List TradingAgreement) (b r : Bytes) (w :
   abbrev pub h : Header
   h = known.0
 
+  -- by which the edition judged
+  abbrev pub terms : JudgingTerms
+  terms = terms_by w.edition a
+
   abbrev pub answer : WrittenInterchange
-  answer = reply_of h (judgement_of me a h b) me w.at w.book.interchange w.book.group
+  answer = reply_of h (judgement_of me terms h b) me w.at w.book.interchange w.book.group
 
   pub numbers : (w.book.interchange ≤ 999999999) × (w.book.group ≤ 999999999)
   numbers = back.within w.book.interchange w.book.group w.within
@@ -102,7 +108,7 @@ module _ (g : Below) (me : Party) (a : List TradingAgreement) (b r : Bytes) (w :
   bytes_are = w.bytes ∙ field.reply_is b h known.1 w.edition me a w.at w.book ∙ ap (λ j. written (reply_of h j me w.at w.book.interchange w.book.group)) (field.is_first w.edition me a h b)
 
   pub fitting : interchange_fits answer ≡ true
-  fitting = g.fits.reply me a h b w.at w.book.interchange w.book.group known.1 (inr (plainly me w.plain)) numbers.0 numbers.1
+  fitting = g.fits.reply me terms h b w.at w.book.interchange w.book.group known.1 (inr (plainly me w.plain)) numbers.0 numbers.1
 
   pub from : x12.sender r ≡ me
   unfolding reply_of reply_to
@@ -118,43 +124,43 @@ module _ (g : Below) (me : Party) (a : List TradingAgreement) (b r : Bytes) (w :
 
   pub no_groups : x12.groups r ≡ []
   unfolding reply_of reply_to
-  no_groups = back.groups_are g.read r answer bytes_are fitting ∙ ap (map (λ (z : FunctionalGroup). z.number)) (none_asked answer.delims w.at w.book.group (judged_groups (judgement_of me a h b).verdict))
+  no_groups = back.groups_are g.read r answer bytes_are fitting ∙ ap (map (λ (z : FunctionalGroup). z.number)) (none_asked answer.delims w.at w.book.group (judged_groups (judgement_of me terms h b).verdict))
 
   pub answers_are : answers_in r ≡ written_answers answer
   answers_are = back.answers_are g.read r answer bytes_are fitting
 
   pub is_taken : (ed : Edition) → x12.refuses ed (x12.sender b) r ≡ false
   unfolding reply_of
-  is_taken ed = back.is_taken ed g.read b r h me w.at w.book.interchange (reply_tas h (judgement_of me a h b).verdict) (answer_groups w.at w.book.group (judged_groups (judgement_of me a h b).verdict)) known.1 bytes_are fitting
+  is_taken ed = back.is_taken ed g.read b r h me w.at w.book.interchange (reply_tas h (judgement_of me terms h b).verdict) (answer_groups w.at w.book.group (judged_groups (judgement_of me terms h b).verdict)) known.1 bytes_are fitting
 
   -- What it accepts.
 
-  accepted_with : (o : Result Interchange OutlineFault) → outline_of h.delims b ≡ o → accepted_in b r ≡ kept me a h b takes
+  accepted_with : (o : Result Interchange OutlineFault) → outline_of h.delims b ≡ o → accepted_in b r ≡ kept me terms h b takes
   accepted_with (Ok o) is =
       field.accepted_are b h known.1 o is r
       ∙ ap (sets_by_reply takes h o) answers_are
-      ∙ g.places.segments takes refl me a h b o w.at w.book.interchange w.book.group is
-  accepted_with (Err f) is = field.no_accepted b h known.1 f is r ∙ sym (none_of_fault me a h b takes f is)
+      ∙ g.places.segments takes refl me terms h b o w.at w.book.interchange w.book.group is
+  accepted_with (Err f) is = field.no_accepted b h known.1 f is r ∙ sym (none_of_fault me terms h b takes f is)
 
-  noted_with : (o : Result Interchange OutlineFault) → outline_of h.delims b ≡ o → noted_in b r ≡ kept me a h b is_noted
+  noted_with : (o : Result Interchange OutlineFault) → outline_of h.delims b ≡ o → noted_in b r ≡ kept me terms h b is_noted
   noted_with (Ok o) is =
       field.noted_are b h known.1 o is r
       ∙ ap (sets_by_reply is_noted h o) answers_are
-      ∙ g.places.segments is_noted refl me a h b o w.at w.book.interchange w.book.group is
-  noted_with (Err f) is = field.no_noted b h known.1 f is r ∙ sym (none_of_fault me a h b is_noted f is)
+      ∙ g.places.segments is_noted refl me terms h b o w.at w.book.interchange w.book.group is
+  noted_with (Err f) is = field.no_noted b h known.1 f is r ∙ sym (none_of_fault me terms h b is_noted f is)
 
-  verdict_here : (k : PlaceOfSet) → x12.verdict w.edition me a b k ≡ result_at k (kept me a h b is_noted) (kept me a h b takes)
+  verdict_here : (k : PlaceOfSet) → x12.verdict w.edition me a b k ≡ result_at k (kept me terms h b is_noted) (kept me terms h b takes)
   verdict_here k = field.verdict_is b h known.1 w.edition me a k ∙ ap (λ j. result_at k (noted_by_verdict h.sender h.icn j.verdict) (accepted_by_verdict h.sender h.icn j.verdict)) (field.is_first w.edition me a h b)
 
   pub result : (k : PlaceOfSet) → x12.result b r k ≡ x12.verdict w.edition me a b k
   result k = field.result_is b r k ∙ ap₂ (result_at k) (noted_with (outline_of h.delims b) refl) (accepted_with (outline_of h.delims b) refl) ∙ sym (verdict_here k)
 
-  nothing : ((test : SetResult → Bool) → kept me a h b test ≡ []) → (k : PlaceOfSet) → takes (x12.result b r k) ≡ false
+  nothing : ((test : SetResult → Bool) → kept me terms h b test ≡ []) → (k : PlaceOfSet) → takes (x12.result b r k) ≡ false
   nothing none k = ap takes (result k ∙ verdict_here k ∙ ap₂ (result_at k) (none is_noted) (none takes))
 
-  none_without : (o : Result Interchange OutlineFault) → outline_of h.delims b ≡ o → x12.groups b ≡ [] → (test : SetResult → Bool) → kept me a h b test ≡ []
-  none_without (Ok o) is none test = none_of_none me a h b test o is (sym (field.groups_are b h known.1 o is) ∙ none)
-  none_without (Err f) is none test = none_of_fault me a h b test f is
+  none_without : (o : Result Interchange OutlineFault) → outline_of h.delims b ≡ o → x12.groups b ≡ [] → (test : SetResult → Bool) → kept me terms h b test ≡ []
+  none_without (Ok o) is none test = none_of_none me terms h b test o is (sym (field.groups_are b h known.1 o is) ∙ none)
+  none_without (Err f) is none test = none_of_fault me terms h b test f is
 
   pub accepts_no_group : x12.groups b ≡ [] → (k : PlaceOfSet) → takes (x12.result b r k) ≡ false
   accepts_no_group none k = nothing (none_without (outline_of h.delims b) refl none) k
@@ -164,7 +170,7 @@ module _ (g : Below) (me : Party) (a : List TradingAgreement) (b r : Bytes) (w :
   other_party other true is = absurd (other (field.receiver_is b h known.1 ∙ (is_same_party-Decides h.receiver me).0 is))
 
   pub accepts_no_other : x12.receiver b ≢ me → (k : PlaceOfSet) → takes (x12.result b r k) ≡ false
-  accepts_no_other other k = nothing (λ test. none_of_other me a h b test (other_party other (is_same_party h.receiver me) refl)) k
+  accepts_no_other other k = nothing (λ test. none_of_other me terms h b test (other_party other (is_same_party h.receiver me) refl)) k
 
 -- A station refuses what isn't addressed to it.
 
@@ -174,7 +180,7 @@ module _ (ed : Edition) (me : Party) (b : Bytes) (there : IsTrue (x12.has_header
 
   own : (t : Bool) → is_same_party header.0.receiver me ≡ t → x12.receiver b ≡ me
   own true is = field.receiver_is b header.0 header.1 ∙ (is_same_party-Decides header.0.receiver me).0 is
-  own false is = absurd (true≢false (sym (field.refuses_is b header.0 header.1 ed me ∙ ap (λ j. is_refused j.verdict) (field.is_first ed me [] header.0 b) ∙ refused_other me [] header.0 b is) ∙ took))
+  own false is = absurd (true≢false (sym (field.refuses_is b header.0 header.1 ed me ∙ ap (λ j. is_refused j.verdict) (field.is_first ed me [] header.0 b) ∙ refused_other me (terms_by ed []) header.0 b is) ∙ took))
 
   pub refuses_others : x12.receiver b ≡ me
   refuses_others = own (is_same_party header.0.receiver me) refl

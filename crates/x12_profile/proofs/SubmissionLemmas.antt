@@ -21,7 +21,7 @@ use Rattle.x12_acks.specs.Evidence.{evidence_of}
 use Rattle.x12_acks.specs.Laws.{IsOfOrders, HasDistinctSets}
 use Rattle.x12_profile.specs.Interchange.{Bytes, PlacedTransactionSet, is_place}
 use Rattle.x12_profile.specs.declared.edition.Edition.{Edition}
-use Rattle.x12_profile.specs.declared.edition.Edition.TheVariants.{First, Second}
+use Rattle.x12_profile.specs.declared.edition.Edition.TheVariants.{First, Second, Third}
 use Rattle.x12_profile.specs.Reading.{answers_in}
 use Rattle.x12_profile.specs.X12.{x12, are_new_numbers, is_order_group, submission_in_bytes, told_by_piece, pieces_read}
 use Rattle.x12_profile.proofs.FieldLemmas as field
@@ -136,6 +136,7 @@ module _ (x : Bytes) (s : IsSubmitted x) where
   unfolding evidence_of
   none_told First hubs y = refl
   none_told Second hubs y = refl
+  none_told Third hubs y = refl
 
   pub tells_nothing_by : (ed : Edition) (hubs : List Party) (y : Bytes) → x12.evidence ed hubs x y ≡ []
   tells_nothing_by ed hubs y = field.evidence_is ed hubs x y ∙ ap (λ answers. flat_map told_by_piece (pieces_read ed (evidence_of hubs (submission_in_bytes y ++ []) (x12.sender x) answers))) answers_none ∙ none_told ed hubs y

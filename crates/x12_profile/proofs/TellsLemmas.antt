@@ -10,6 +10,7 @@ use Rattle.x12_envelopes.specs.Envelope.{written}
 use Rattle.x12_envelopes.specs.Outline.{outline_of}
 use Rattle.x12_envelopes.specs.Shape.{Interchange}
 use Rattle.x12_judge.specs.Agreement.{TradingAgreement}
+use Rattle.x12_judge.specs.Controls.{JudgingTerms}
 use Rattle.x12_judge.specs.Verdict.{judgement_of, InterchangeVerdict}
 use Rattle.x12_acks.specs.Accepted.{accepted_by_verdict, noted_by_verdict}
 use Rattle.x12_acks.specs.Evidence.{Evidence as Piece, evidence_of}
@@ -23,7 +24,7 @@ use Rattle.x12_profile.specs.Laws.{IsReply}
 use Rattle.x12_profile.specs.Reading.{answers_in}
 use Rattle.x12_acks.specs.Evidence.{fate_of_result}
 use Rattle.x12_acks.specs.Told.{result_by_verdict}
-use Rattle.x12_profile.specs.Edition.{fate_read}
+use Rattle.x12_profile.specs.Edition.{fate_read, terms_by}
 use Rattle.x12_profile.specs.X12.{x12, result_at, sets_by_place, told_by_piece, pieces_read}
 use Rattle.x12_profile.proofs.Below.{Below}
 use Rattle.x12_profile.proofs.FieldLemmas as field
@@ -56,7 +57,7 @@ by_place : (ed : Edition) (h : Header) (x : Bytes) (o : Interchange) (v : Interc
 unfolding told_by_place submission_of
 by_place ed h x o v = all_told ed (result_by_verdict h.sender h.icn v) h x o
 
-by_profile : (read ed : Edition) (me : Party) (a : List TradingAgreement) (x : Bytes) (h : Header) → header_of x ≡ Ok h → (sets : List PlacedTransactionSet) → evidence_by read (x12.verdict ed me a x) sets ≡ evidence_by read (λ k. result_at k (noted_by_verdict h.sender h.icn (judgement_of me a h x).verdict) (accepted_by_verdict h.sender h.icn (judgement_of me a h x).verdict)) sets
+by_profile : (read ed : Edition) (me : Party) (a : List TradingAgreement) (x : Bytes) (h : Header) → header_of x ≡ Ok h → (sets : List PlacedTransactionSet) → evidence_by read (x12.verdict ed me a x) sets ≡ evidence_by read (λ k. result_at k (noted_by_verdict h.sender h.icn (judgement_of me (terms_by ed a) h x).verdict) (accepted_by_verdict h.sender h.icn (judgement_of me (terms_by ed a) h x).verdict)) sets
 by_profile read ed me a x h known [] = refl
 by_profile read ed me a x h known (s ∷ sets) = ap₂ (λ v es. record { place = s.place; fate = fate_read read (fate_of_result v) } ∷ es) (field.verdict_is x h known ed me a s.place ∙ ap (λ j. result_at s.place (noted_by_verdict h.sender h.icn j.verdict) (accepted_by_verdict h.sender h.icn j.verdict)) (field.is_first ed me a h x)) (by_profile read ed me a x h known sets)
 
@@ -67,26 +68,29 @@ module _ (g : Below) (me : Party) (a : List TradingAgreement) (x r : Bytes) (w :
   abbrev e : Submission
   e = submission_of h x s.outline
 
+  abbrev terms : JudgingTerms
+  terms = terms_by w.edition a
+
   mine : h.receiver ≡ me
   mine = sym (field.receiver_is x h s.is_header) ∙ own
 
   abbrev reply_by : Party → Bytes
-  reply_by who = written (reply_of h (judgement_of who a h x) who w.at w.book.interchange w.book.group)
+  reply_by who = written (reply_of h (judgement_of who terms h x) who w.at w.book.interchange w.book.group)
 
   bytes_are : r ≡ reply_by me
   bytes_are = w.bytes ∙ field.reply_is x h s.is_header w.edition me a w.at w.book ∙ ap (λ j. written (reply_of h j me w.at w.book.interchange w.book.group)) (field.is_first w.edition me a h x)
 
-  tells_it : (hubs : List Party) → Tells hubs (e ∷ []) r (told_by_place e (judgement_of me a h x).verdict)
+  tells_it : (hubs : List Party) → Tells hubs (e ∷ []) r (told_by_place e (judgement_of me terms h x).verdict)
   tells_it hubs =
       let at = reply.numbers g me a x r w in
-      subst (λ bytes. Tells hubs (e ∷ []) bytes (told_by_place e (judgement_of me a h x).verdict)) (sym bytes_are)
-      (subst (λ who. Tells hubs (e ∷ []) (reply_by who) (told_by_place e (judgement_of who a h x).verdict)) mine
-      (g.tells.reply hubs (e ∷ []) a h x s.outline w.at w.book.interchange w.book.group (submission.of_orders x s n rising) (submitted_alone e) at.0 at.1))
+      subst (λ bytes. Tells hubs (e ∷ []) bytes (told_by_place e (judgement_of me terms h x).verdict)) (sym bytes_are)
+      (subst (λ who. Tells hubs (e ∷ []) (reply_by who) (told_by_place e (judgement_of who terms h x).verdict)) mine
+      (g.tells.reply hubs (e ∷ []) terms h x s.outline w.at w.book.interchange w.book.group (submission.of_orders x s n rising) (submitted_alone e) at.0 at.1))
 
   pub tells_verdict : (ed : Edition) (hubs : List Party) → x12.evidence ed hubs r x ≡ evidence_by ed (x12.verdict w.edition me a x) (x12.sets x)
   tells_verdict ed hubs =
-      evidence_told ed hubs r x h s.outline (told_by_place e (judgement_of me a h x).verdict) s.is_header s.is_outline (tells_it hubs)
-      ∙ by_place ed h x s.outline (judgement_of me a h x).verdict
+      evidence_told ed hubs r x h s.outline (told_by_place e (judgement_of me terms h x).verdict) s.is_header s.is_outline (tells_it hubs)
+      ∙ by_place ed h x s.outline (judgement_of me terms h x).verdict
       ∙ sym (by_profile ed w.edition me a x h s.is_header (sets_by_place s.outline))
       ∙ ap (evidence_by ed (x12.verdict w.edition me a x)) (sym (field.sets_are x h s.is_header s.outline s.is_outline))
 

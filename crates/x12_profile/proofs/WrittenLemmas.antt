@@ -17,13 +17,17 @@ use Rattle.x12_envelopes.specs.Moment.{text_is_date, text_is_month_and_day}
 use Rattle.x12_envelopes.specs.Outline.{outline_of}
 use Rattle.x12_envelopes.specs.RoundTrip.{written_outline, written_group_outline}
 use Rattle.x12_envelopes.specs.Segment.{Segment}
-use Rattle.x12_judge.specs.Interchange.{note_of_interchange, version_is_supported}
+use Rattle.x12_judge.specs.declared.controls.Controls.{Controls}
+use Rattle.x12_judge.specs.declared.controls.Controls.TheVariants.{Until401, Until501}
+use Rattle.x12_judge.specs.Controls.{standard_is_unsupported, version_is_supported}
+use Rattle.x12_judge.specs.Interchange.{note_of_interchange}
 use Rattle.x12_judge.specs.Verdict.{judgement_of, verdict_by, verdicts_of_groups}
 use Rattle.x12_judge.specs.Group.{FunctionalGroupVerdict}
 use Rattle.x12_acks.specs.Laws.{written_answers}
 use Rattle.x12_envelopes.specs.Letter.{letter, is_one_of}
 use Rattle.x12_acks.specs.Reply.{reply_to, reply_usage}
 use Rattle.x12_profile.specs.declared.edition.Edition.{Edition}
+use Rattle.x12_profile.specs.Edition.{controls_of, terms_by}
 use Rattle.x12_profile.specs.Interchange.{Bytes}
 use Rattle.x12_profile.specs.Reading.{answers_in}
 use Rattle.x12_profile.specs.X12.{x12, group_numbers, is_refused}
@@ -83,15 +87,21 @@ usage_known u = by (is_one_of (codes "PTI") u) refl
     by true is = is
     by false is = refl
 
-version_known : version_is_supported (codes "00401") ≡ true
+-- what a reply has in ISA11 and ISA12 is taken by older and by newer controls
+version_known : (c : Controls) → version_is_supported c (codes "00401") ≡ true
 unfolding number_of_digits value_of_digits
-version_known = refl
+version_known Until401 = refl
+version_known Until501 = refl
 
-no_note : (h : Header) (me : Party) (at : Moment) (icn : ℕ) (tas : List Segment) (groups : List WrittenGroup)
-    → note_of_interchange h.sender (written_header (reply_to h me at icn tas groups)) (Ok (written_outline (reply_to h me at icn tas groups))) ≡ None
+standard_known : (c : Controls) (h : Header) → h.standard ≡ letter (codes "U") → standard_is_unsupported c h ≡ false
+standard_known Until401 h is = rw is refl
+standard_known Until501 h is = rw is refl
+
+no_note : (c : Controls) (h : Header) (me : Party) (at : Moment) (icn : ℕ) (tas : List Segment) (groups : List WrittenGroup)
+    → note_of_interchange c h.sender (written_header (reply_to h me at icn tas groups)) (Ok (written_outline (reply_to h me at icn tas groups))) ≡ None
 unfolding note_of_interchange reply_to
-no_note h me at icn tas groups =
-    rw (same_party_itself h.sender, version_known, short_date at.date at.with_century at.on_a_day, at.in_a_day, usage_known h.usage, (Decides-eqb icn icn).1 refl, length-map groups (written_group_outline h.delims), (Decides-eqb (length groups) (length groups)).1 refl) refl
+no_note c h me at icn tas groups =
+    rw (same_party_itself h.sender, standard_known c (written_header (reply_to h me at icn tas groups)) refl, version_known c, short_date at.date at.with_century at.on_a_day, at.in_a_day, usage_known h.usage, (Decides-eqb icn icn).1 refl, length-map groups (written_group_outline h.delims), (Decides-eqb (length groups) (length groups)).1 refl) refl
 
 none_refused : (n : Option ℕ) (vs : List FunctionalGroupVerdict) → n ≡ None → is_refused (verdict_by n vs) ≡ false
 none_refused n vs is = rw is refl
@@ -100,7 +110,7 @@ module _ (ed : Edition) (g : ReadBack) (b r : Bytes) (h : Header) (me : Party) (
   abbrev w : WrittenInterchange
   w = reply_to h me at icn tas groups
 
-  judged : r ≡ written w → interchange_fits w ≡ true → is_refused (judgement_of h.sender [] (written_header w) r).verdict ≡ is_refused (verdict_by (note_of_interchange h.sender (written_header w) (Ok (written_outline w))) (verdicts_of_groups [] (written_header w) (Ok (written_outline w))))
+  judged : r ≡ written w → interchange_fits w ≡ true → is_refused (judgement_of h.sender (terms_by ed []) (written_header w) r).verdict ≡ is_refused (verdict_by (note_of_interchange (controls_of ed) h.sender (written_header w) (Ok (written_outline w))) (verdicts_of_groups [] (written_header w) (Ok (written_outline w))))
   unfolding judgement_of
   judged is fit = rw (outline_is g r w is fit) refl
 
@@ -110,4 +120,4 @@ module _ (ed : Edition) (g : ReadBack) (b r : Bytes) (h : Header) (me : Party) (
       ∙ field.refuses_is r (written_header w) (header_is g r w is fit) ed h.sender
       ∙ ap (λ j. is_refused j.verdict) (field.is_first ed h.sender [] (written_header w) r)
       ∙ judged is fit
-      ∙ none_refused (note_of_interchange h.sender (written_header w) (Ok (written_outline w))) (verdicts_of_groups [] (written_header w) (Ok (written_outline w))) (no_note h me at icn tas groups)
+      ∙ none_refused (note_of_interchange (controls_of ed) h.sender (written_header w) (Ok (written_outline w))) (verdicts_of_groups [] (written_header w) (Ok (written_outline w))) (no_note (controls_of ed) h me at icn tas groups)

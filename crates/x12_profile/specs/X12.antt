@@ -19,8 +19,8 @@ use Rattle.x12_acks.specs.Accepted.{AcceptedSet, accepted_by_verdict, noted_by_v
 use Rattle.x12_acks.specs.Place.{accepted_by_reply, noted_by_reply}
 use Rattle.x12_acks.specs.Told.{result_among}
 use Rattle.x12_profile.specs.declared.edition.Edition.{Edition}
-use Rattle.x12_profile.specs.declared.edition.Edition.TheVariants.{First, Second}
-use Rattle.x12_profile.specs.Edition.{fate_read}
+use Rattle.x12_profile.specs.declared.edition.Edition.TheVariants.{First, Second, Third}
+use Rattle.x12_profile.specs.Edition.{fate_read, terms_by}
 use Rattle.x12_profile.specs.Interchange.{Bytes, PlaceOfSet, PlacedTransactionSet, PlacedEvidence, Book, Needs}
 use Rattle.x12_profile.specs.Profile.{Profile}
 use Rattle.x12_judge.specs.declared.verdict.SetResult.{SetResult}
@@ -70,7 +70,7 @@ is_refused (judged groups) = false
 -- what an interchange with this header deserves at this station by an edition
 abbrev pub judged_by :
     Edition → Party → List TradingAgreement → Header → Bytes → InterchangeJudgement
-judged_by by me agreements h b = judgement_of me agreements h b
+judged_by by me agreements h b = judgement_of me (terms_by by agreements) h b
 
 -- the transaction sets that a station accepts of an interchange with this header, by its verdict; and
 -- of these, those with errors noted
@@ -132,6 +132,7 @@ piece_before unmatched = unmatched
 abbrev pub pieces_read : Edition → List Piece → List Piece
 pieces_read First pieces = map piece_before pieces
 pieces_read Second pieces = pieces
+pieces_read Third pieces = pieces
 
 -- a set of a group of acknowledgments that isn't a 997
 abbrev pub is_unclear : Acknowledgment → Bool
@@ -146,8 +147,8 @@ sender_of b = by_header nobody (λ h. h.sender) b
 abbrev pub pieces_for : List Party → List Bytes → Bytes → List Piece
 pieces_for hubs xs b = evidence_of hubs (flat_map submission_in_bytes xs) (sender_of b) (answers_in b)
 
--- The profile, in the order of Profile.antt; both its editions are 004010's, in envelopes of control
--- versions 00200 to 00401. Bytes without a header come from nobody and to nobody, are refused, and
+-- The profile, in the order of Profile.antt; its editions are 004010's, in envelopes of control versions
+-- 00200 to 00401, and by the newest one to 00501. Bytes without a header come from nobody and to nobody, are refused, and
 -- give empty lists, no numbers and no bytes.
 unfoldable pub x12 : Profile
 x12 = record {

@@ -4,13 +4,13 @@ ghost use Rattle.std.specs.Prelude.{◌≡◌, ℕ, ◌+◌, List, IfOk, map};
 ghost use Rattle.x12_judge.specs.Agreement.{agreement_view};
 ghost use Rattle.x12_judge.specs.Bound.{IsReadOf, IsSmall};
 ghost use Rattle.x12_judge.specs.Verdict.{judgement_view};
-ghost use Rattle.x12_profile.specs.Edition.{edition_at};
+ghost use Rattle.x12_profile.specs.Edition.{controls_of, edition_at};
 ghost use Rattle.x12_profile.specs.Marking.{marks_view};
 ghost use Rattle.x12_profile.specs.X12.{judged_by};
 
 use std::alloc::{AllocError, Global};
 use x12_envelopes::{Header, Party};
-use x12_judge::{Agreement, Judgement, Reading, judge_reading};
+use x12_judge::{Agreement, Controls, Judgement, Reading, judge_reading};
 
 /// An edition of the rules by which a station judges and reads an arrival.
 #[derive(Clone, Copy)]
@@ -20,6 +20,8 @@ pub enum Edition {
     First,
     /// The same, but it is read as noted.
     Second,
+    /// The same, in envelopes of the control versions 00200 to 00501.
+    Third,
 }
 
 /// Up to which numbers of a station's history arrivals are judged and read in an older way.
@@ -27,6 +29,8 @@ pub enum Edition {
 pub struct Marks {
     /// Up to this one a set with errors noted is read as accepted.
     pub noted: u64,
+    /// Up to this one the control versions 00402 to 00501 are refused.
+    pub era: u64,
 }
 
 impl Edition {
@@ -38,7 +42,10 @@ impl Edition {
         if number <= marks.noted {
             return Edition::First;
         }
-        Edition::Second
+        if number <= marks.era {
+            return Edition::Second;
+        }
+        Edition::Third
     }
 
     /// The edition of what comes next where this number is the last in a station's history.
@@ -49,7 +56,20 @@ impl Edition {
         if last < marks.noted {
             return Edition::First;
         }
-        Edition::Second
+        if last < marks.era {
+            return Edition::Second;
+        }
+        Edition::Third
+    }
+
+    /// The versions of the interchange controls that this edition takes.
+    pub fn controls(self) -> Controls
+        ensures { result ≡ controls_of self }
+    {
+        match self {
+            Edition::First | Edition::Second => Controls::Until401,
+            Edition::Third => Controls::Until501,
+        }
     }
 
     /// What an interchange deserves at this station, under these agreements, by this edition: by
@@ -67,6 +87,6 @@ impl Edition {
             let ags = map agreement_view agreements.now in IfOk result (λ j.
             judgement_view j ≡ judged_by self me.now ags header.now bytes) }
     {
-        judge_reading(alloc, me, agreements, header, reading)
+        judge_reading(alloc, me, agreements, self.controls(), header, reading)
     }
 }

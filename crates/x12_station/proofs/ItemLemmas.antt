@@ -169,7 +169,7 @@ module _ {R : Type 0} (key : R → ℕ) where
     ]
   ]
 
-apart : (s : Stored) → AreNumbered s → (n : ℕ) → (under seq_of_submission n s.submitted ≡ None) ⊎ (under seq_of_arrival n s.arrived ≡ None)
+pub apart : (s : Stored) → AreNumbered s → (n : ℕ) → (under seq_of_submission n s.submitted ≡ None) ⊎ (under seq_of_arrival n s.arrived ≡ None)
 apart s numbered n = elim (none_or_one seq_of_submission s.submitted n) [
   | inl none ↦ inl none
   | inr one ↦ elim (none_or_one seq_of_arrival s.arrived n) [

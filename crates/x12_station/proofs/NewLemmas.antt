@@ -29,17 +29,21 @@ module _ (m : Cached) (s : Stored) (keeps : Caches m s) (durable : IsHistoryOf m
       no_entries : (items : List Item) → items ≡ [] → fared_entries m.ledger.holds.me m.ledger.holds.hubs items ≡ []
       no_entries items e = rw e refl
 
-  unmarked : IsUntouched m → s.origin.noted ≡ 0
-  unmarked untouched = ap (λ (k : Marks). k.noted) (sym keeps.marks) ∙ untouched.noted
+  unmarked : IsUntouched m → (s.origin.noted ≡ 0) × (s.origin.era ≡ 0)
+  unmarked untouched = (
+    ap (λ (k : Marks). k.noted) (sym keeps.marks) ∙ untouched.noted,
+    ap (λ (k : Marks). k.era) (sym keeps.marks) ∙ untouched.era,
+  )
 
   pub state_new : IsUntouched m → station_of m.ledger.holds m.counts s ≡ new_station m.ledger.holds.me m.ledger.holds.hubs
   state_new untouched =
       let none = no_items (sym keeps.seq ∙ untouched.seq) in
-      rw (none, sym keeps.agreements ∙ ap (map agreement_view) untouched.agreements, sym keeps.book ∙ untouched.book, untouched.tick, no_rows none, untouched.counts, unmarked untouched) refl
+      rw (none, sym keeps.agreements ∙ ap (map agreement_view) untouched.agreements, sym keeps.book ∙ untouched.book, untouched.tick, no_rows none, untouched.counts, (unmarked untouched).0, (unmarked untouched).1) refl
 
   pub untouched_by : station_of m.ledger.holds m.counts s ≡ new_station m.ledger.holds.me m.ledger.holds.hubs → IsUntouched m
   untouched_by e = record {
     noted = ap (λ (k : Marks). k.noted) (keeps.marks ∙ ap (λ (st : Station). st.marks) e);
+    era = ap (λ (k : Marks). k.era) (keeps.marks ∙ ap (λ (st : Station). st.marks) e);
     seq = keeps.seq ∙ sym (length_items s durable.sound.numbered) ∙ ap (λ (st : Station). length st.items) e;
     agreements = nothing_mapped agreement_view m.agreements.items (keeps.agreements ∙ ap (λ (st : Station). st.agreements) e);
     book = keeps.book ∙ ap (λ (st : Station). st.book) e;

@@ -12,7 +12,7 @@ use Rattle.x12_acks.specs.Evidence.{Evidence, tells, unmatched, FinalFate, accep
 use Rattle.x12_acks.specs.Submission.{Submission, KeyedSet, KeyedGroup, keyed_sets}
 use Rattle.x12_outbound.specs.Plan.{answer_is_unclear, unclear_answers}
 use Rattle.x12_profile.specs.declared.edition.Edition.{Edition}
-use Rattle.x12_profile.specs.declared.edition.Edition.TheVariants.{First, Second}
+use Rattle.x12_profile.specs.declared.edition.Edition.TheVariants.{First, Second, Third}
 use Rattle.x12_profile.specs.Edition.{fate_read}
 use Rattle.x12_profile.specs.X12.{piece_before, pieces_read}
 use Rattle.x12_station.specs.Older.{code_before, set_answer_before, answer_before, answers_as_read}
@@ -92,11 +92,13 @@ module _ (hubs : List Party) (submissions : List Submission) (from : Party) wher
   pub evidence_as_read : (ed : Edition) (answers : List Acknowledgment) → pieces_read ed (evidence_of hubs submissions from answers) ≡ evidence_of hubs submissions from (answers_as_read ed answers)
   evidence_as_read First answers = sym (all_before answers)
   evidence_as_read Second answers = refl
+  evidence_as_read Third answers = refl
 
 -- What is unclear stays so.
 pub unclear_as_read : (ed : Edition) (answers : List Acknowledgment) → unclear_answers (answers_as_read ed answers) ≡ unclear_answers answers
 unfolding unclear_answers
 unclear_as_read Second answers = refl
+unclear_as_read Third answers = refl
 unclear_as_read First answers = each answers
   where
     one : (a : Acknowledgment) → answer_is_unclear (answer_before a) ≡ answer_is_unclear a

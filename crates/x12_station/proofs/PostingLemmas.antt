@@ -23,6 +23,7 @@ use Rattle.x12_acks.specs.Told.{is_among, result_if}
 use Rattle.x12_profile.specs.Interchange.{Bytes, PlacedTransactionSet}
 use Rattle.x12_profile.specs.Laws.{IsReply, Laws}
 use Rattle.x12_profile.specs.declared.edition.Edition.{Edition}
+use Rattle.x12_profile.specs.Edition.{controls_of}
 use Rattle.x12_judge.specs.Set.{takes}
 use Rattle.x12_profile.specs.X12.{x12, judged_by, result_at, sets_of_group}
 use Rattle.x12_profile.proofs.FieldLemmas as field
@@ -185,8 +186,8 @@ takes_if false true = refl
 takes_if n false = refl
 
 module _ (me : Party) (a : List TradingAgreement) (b : Bytes) (h : Header) (known : header_of b ≡ Ok h) where
-  abbrev pub verdict_here : InterchangeVerdict
-  verdict_here = (judgement_of me a h b).verdict
+  abbrev verdict_by_edition : Edition → InterchangeVerdict
+  verdict_by_edition ed = (judged_by ed me a h b).verdict
 
   -- the sets that stand among the accepted are the accepted
   abbrev AreAccepted : List PlacedTransactionSet → InterchangeVerdict → Type 0
@@ -204,21 +205,25 @@ module _ (me : Party) (a : List TradingAgreement) (b : Bytes) (h : Header) (know
   no_groups (Some note) = refl
   no_groups None = refl
 
-  pub verdict_posts : AreAccepted (x12.sets b) verdict_here
-  unfolding judgement_of verdicts_of_groups
-  verdict_posts = by (outline_of h.delims b) refl
-    where
-      by : (r : Result Interchange OutlineFault) → outline_of h.delims b ≡ r → AreAccepted (x12.sets b) (judgement_of me a h b).verdict
-      by (Ok o) there = rw (field.sets_are b h known o there, there) (of_groups (note_of_interchange me h (Ok o)) o.groups)
-      by (Err f) there = rw (field.no_sets b h known f there, there) (no_groups (note_of_interchange me h (Err f)))
+  module _ (ed : Edition) where
+    verdict_posts : AreAccepted (x12.sets b) (verdict_by_edition ed)
+    unfolding judgement_of verdicts_of_groups
+    verdict_posts = by (outline_of h.delims b) refl
+      where
+        by : (r : Result Interchange OutlineFault) → outline_of h.delims b ≡ r → AreAccepted (x12.sets b) (verdict_by_edition ed)
+        by (Ok o) there = rw (field.sets_are b h known o there, there) (of_groups (note_of_interchange (controls_of ed) me h (Ok o)) o.groups)
+        by (Err f) there = rw (field.no_sets b h known f there, there) (no_groups (note_of_interchange (controls_of ed) me h (Err f)))
 
-  -- what the history posts of an arrival with its reply is what the verdict accepts
-  posted_so : Laws x12 → (r : Bytes) → IsReply x12 me a b r → map (posting_of x12 b) (filter (λ s. takes (x12.result b r s.place)) (x12.sets b)) ≡ accepted_by_verdict h.sender h.icn verdict_here
-  posted_so laws r reply =
-      ap (map (posting_of x12 b)) (same_filter (λ s. takes (x12.result b r s.place)) (λ s. is_among (accepted_by_verdict h.sender h.icn verdict_here) s.place.group s.place.set)
-      (λ s. ap takes (laws.reply.result me a b r reply s.place ∙ field.verdict_is b h known reply.edition me a s.place ∙ ap (λ j. result_at s.place (noted_by_verdict h.sender h.icn j.verdict) (accepted_by_verdict h.sender h.icn j.verdict)) (field.is_first reply.edition me a h b))
-      ∙ takes_if (is_among (noted_by_verdict h.sender h.icn verdict_here) s.place.group s.place.set) (is_among (accepted_by_verdict h.sender h.icn verdict_here) s.place.group s.place.set)) (x12.sets b))
-      ∙ verdict_posts
+    -- the sets that stand among those
+    abbrev noted_here : PlacedTransactionSet → Bool
+    noted_here s = is_among (noted_by_verdict h.sender h.icn (verdict_by_edition ed)) s.place.group s.place.set
 
-  pub reply_posts : (ed : Edition) → Laws x12 → (r : Bytes) → IsReply x12 me a b r → posted_by x12 (Came ed b (Some r)) ≡ accepted_by_verdict h.sender h.icn (judged_by ed me a h b).verdict
-  reply_posts ed laws r reply = posted_so laws r reply ∙ sym (ap (λ j. accepted_by_verdict h.sender h.icn j.verdict) (field.is_first ed me a h b))
+    abbrev accepted_here : PlacedTransactionSet → Bool
+    accepted_here s = is_among (accepted_by_verdict h.sender h.icn (verdict_by_edition ed)) s.place.group s.place.set
+
+  -- what the history posts of an arrival with its reply is what the verdict of that reply's edition accepts
+  pub reply_posts : (ed : Edition) → Laws x12 → (r : Bytes) (reply : IsReply x12 me a b r) → posted_by x12 (Came ed b (Some r)) ≡ accepted_by_verdict h.sender h.icn (verdict_by_edition reply.edition)
+  reply_posts ed laws r reply =
+      ap (map (posting_of x12 b)) (same_filter (λ s. takes (x12.result b r s.place)) (accepted_here reply.edition) (λ s. ap takes (laws.reply.result me a b r reply s.place ∙ field.verdict_is b h known reply.edition me a s.place)
+      ∙ takes_if (noted_here reply.edition s) (accepted_here reply.edition s)) (x12.sets b))
+      ∙ verdict_posts reply.edition

@@ -19,6 +19,7 @@ use Rattle.x12_acks.proofs.FindLemmas.{clash}
 use Rattle.x12_inbound.specs.Accepted.{PostsWhatIsAccepted}
 use Rattle.x12_inbound.specs.Arrival.{arrival}
 use Rattle.x12_profile.specs.declared.edition.Edition.{Edition}
+use Rattle.x12_profile.specs.Edition.{controls_of, terms_by}
 use Rattle.x12_profile.specs.Interchange.{Bytes, Needs, book_for, is_within}
 use Rattle.x12_profile.specs.Laws.{Laws, IsReply}
 use Rattle.x12_profile.specs.Reading.{answers_in}
@@ -46,14 +47,12 @@ module _ (ed : Edition) (me : Party) (a : List TradingAgreement) (b : Bytes) (h 
   abbrev judgement : InterchangeJudgement
   judgement = judged_by ed me a h b
 
-  alike : is_refused (judgement_of me [] h b).verdict ≡ is_refused (judgement_of me a h b).verdict
+  alike : is_refused (judged_by ed me [] h b).verdict ≡ is_refused (judged_by ed me a h b).verdict
   unfolding judgement_of
-  alike = refused_by (note_of_interchange me h _) _ _
+  alike = refused_by (note_of_interchange (controls_of ed) me h _) _ _
 
   pub refused_is : x12.refuses ed me b ≡ is_refused (judged_by ed me a h b).verdict
-  refused_is =
-      field.refuses_is b h known ed me ∙ ap (λ j. is_refused j.verdict) (field.is_first ed me [] h b) ∙ alike
-      ∙ sym (ap (λ j. is_refused j.verdict) (field.is_first ed me a h b))
+  refused_is = field.refuses_is b h known ed me ∙ alike
 
   -- the evidence that the arrival brings is that of what is heard of it
   pub brought_is : (hubs : List Party) (items : List Item) → brought ed me hubs items b ≡ evidence_of hubs (all_submitted items) h.sender (heard ed (judged_by ed me a h b).verdict b)
@@ -111,12 +110,12 @@ module _ (ed : Edition) (me : Party) (a : List TradingAgreement) (b : Bytes) (h 
         by false is =
             posts.none (arrival h.sender h.icn b) (judged_by ed me a h b) (record {
               me = me;
-              agreements = a;
+              terms = terms_by ed a;
               header = h;
               is_header = known;
               partner = refl;
               icn = refl;
-              judgement = field.is_first ed me a h b;
+              judgement = refl;
               reply = record { at = at; icn = book.interchange; gcn = book.group; is = no_reply h (judged_by ed me a h b) me at book.interchange book.group is };
             })
             ∙ ap (λ o. posted_by x12 (Came ed b o)) (no_reply h (judged_by ed me a h b) me at book.interchange book.group is ∙ sym r_is)

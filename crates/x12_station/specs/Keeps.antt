@@ -51,6 +51,7 @@ pub record IsReady (m : Cached) : Type 0 where
 -- marks
 pub record IsUntouched (m : Cached) : Type 0 where
   pub noted : m.marks.noted ≡ 0
+  pub era : m.marks.era ≡ 0
   pub seq : m.seq ≡ 0
   pub agreements : m.agreements.items ≡ []
   pub book : m.book ≡ new_book

@@ -5,7 +5,7 @@ use Rattle.x12_acks.specs.Answer.{Acknowledgment, of_group, TransactionSetAnswer
 use Rattle.x12_acks.specs.declared.answer.AnswerCode.{AnswerCode}
 use Rattle.x12_acks.specs.declared.answer.AnswerCode.TheVariants.{Accepted, ErrorsNoted}
 use Rattle.x12_profile.specs.declared.edition.Edition.{Edition}
-use Rattle.x12_profile.specs.declared.edition.Edition.TheVariants.{First, Second}
+use Rattle.x12_profile.specs.declared.edition.Edition.TheVariants.{First, Second, Third}
 
 -- AK501 as it was read before errors were told as noted
 abbrev pub code_before : AnswerCode → AnswerCode
@@ -24,3 +24,4 @@ answer_before answer = answer
 abbrev pub answers_as_read : Edition → List Acknowledgment → List Acknowledgment
 answers_as_read First answers = map answer_before answers
 answers_as_read Second answers = answers
+answers_as_read Third answers = answers

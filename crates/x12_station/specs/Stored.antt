@@ -43,21 +43,21 @@ pub record StoredArrival : Type 0 where
   pub filed : FiledInterchange
 
 -- Whose records are: the station's party and its hubs, one or two; and up to which number of a
--- submission or first arrival an arrival is read as before acknowledgments were noted (`noted`), and
--- as before the edition changed (`era`).
+-- submission or first arrival an arrival is read as before sets were noted (`noted`), and judged as
+-- before the control versions from 00402 on were taken (`era`).
 pub record Origin : Type 0 where
   pub me : Party
   pub hubs : List Party
   pub noted : ℕ
   pub era : ℕ
 
--- the origin of a station's records in which each arrival is read alike
+-- the origin of a station's records in which each arrival is judged and read alike
 abbrev pub origin_of : Party → List Party → Origin
 origin_of me hubs = record { me = me; hubs = hubs; noted = 0; era = 0 }
 
--- how far records of this origin are read in an older way
+-- how far records of this origin are judged and read in an older way
 abbrev pub marks_of : Origin → Marks
-marks_of o = record { noted = o.noted }
+marks_of o = record { noted = o.noted; era = o.era }
 
 -- Whose they are; the last control numbers and the last number of a submission or first arrival; how
 -- many postings were handed over; the agreements; the submissions in their order, and their

@@ -58,6 +58,7 @@ fn is_untouched(memory: &Cached) -> bool
     ensures no { IsUntouched memory.now → IsTrue result }
 {
     memory.marks.noted == 0
+        && memory.marks.era == 0
         && memory.seq == 0
         && memory.agreements.is_empty()
         && is_unused(&memory.book)

@@ -91,6 +91,6 @@ pub(crate) fn read_by(
 {
     match edition {
         Edition::First => older_answers(alloc, &answers),
-        Edition::Second => Ok(answers),
+        Edition::Second | Edition::Third => Ok(answers),
     }
 }

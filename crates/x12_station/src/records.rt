@@ -69,8 +69,8 @@ pub struct Owner {
     /// The last number (of a submission or first arrival) up to which an arrival is read as before
     /// acknowledgments were noted: 0 to 9223372036854775807.
     pub noted: u64,
-    /// The last number up to which an arrival is read as before the edition changed: 0 to
-    /// 9223372036854775807.
+    /// The last number up to which an arrival is judged as before the control versions from 00402 on
+    /// were taken: 0 to 9223372036854775807.
     pub era: u64,
 }
 
@@ -93,7 +93,10 @@ impl Owner {
     pub fn marks(&self) -> Marks
         ensures { marks_view result ≡ marks_of (owner_view self.now) }
     {
-        Marks { noted: self.noted }
+        Marks {
+            noted: self.noted,
+            era: self.era,
+        }
     }
 }
 

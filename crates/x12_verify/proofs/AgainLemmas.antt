@@ -13,7 +13,6 @@ use Rattle.x12_numbers.proofs.Shelf.{all_of_one}
 use Rattle.x12_profile.specs.Edition.{edition_at}
 use Rattle.x12_profile.specs.Interchange.{Bytes}
 use Rattle.x12_profile.specs.X12.{x12}
-use Rattle.x12_profile.specs.declared.edition.Edition.TheVariants.{Second}
 use Rattle.x12_station.specs.Durable.{IsHistoryOf, item_at, items_of}
 use Rattle.x12_station.specs.Opened.{opened}
 use Rattle.x12_station.specs.History.{Item, Came, posted_by, postings}
@@ -96,8 +95,8 @@ holds_told s d o book n first now all left told fresh items wrote = record {
 
 -- What came next is read there and here by one edition.
 module _ (s : Stored) (me : Party) (book : Numbers) (n : ℕ) (old new : Station) (posted left : List AcceptedSet) (b x : Bytes) (r : Option Bytes) where
-  pub told_came : length old.items + 1 ≡ n → old.marks ≡ marks_of s.origin → item_at s n ≡ Some (Came (edition_at (marks_of s.origin) n) b r) → IsRightArrival s me book b r → x ≡ b
-      → all_as_told new.items ≡ all_as_told old.items ++ Came (edition_next old) x None ∷ [] → HasSameOrigin old new → posted ≡ posted_by x12 (Came Second b r) ++ left
+  pub told_came : length old.items + 1 ≡ n → old.marks ≡ marks_of s.origin → item_at s n ≡ Some (Came (edition_at (marks_of s.origin) n) b r) → IsRightArrival s me book (edition_at (marks_of s.origin) n) b r → x ≡ b
+      → all_as_told new.items ≡ all_as_told old.items ++ Came (edition_next old) x None ∷ [] → HasSameOrigin old new → posted ≡ posted_by x12 (Came (edition_at (marks_of s.origin) n) b r) ++ left
       → IsTold s me book n old new posted left
   told_came place marks at right same told origin is = record {
     item = Came (edition_at (marks_of s.origin) n) b r;

@@ -17,14 +17,14 @@ use Rattle.x12_inbound.specs.Arrival.{Arrival, Filing, HasDueReply, arrival, fil
 use Rattle.x12_inbound.specs.Filing.{FiledInterchange}
 use Rattle.x12_inbound.specs.Sighting.{first, sighting_of}
 use Rattle.x12_judge.specs.Agreement.{TradingAgreement}
-use Rattle.x12_judge.specs.Verdict.{InterchangeJudgement, judgement_of}
+use Rattle.x12_judge.specs.Verdict.{InterchangeJudgement}
 use Rattle.x12_numbers.specs.Book.{Numbers}
 use Rattle.x12_numbers.specs.declared.book.TheConstants.{MAX_CONTROL_NUMBER}
 use Rattle.x12_profile.specs.declared.edition.Edition.{Edition}
-use Rattle.x12_profile.specs.declared.edition.Edition.TheVariants.{Second}
+use Rattle.x12_profile.specs.Edition.{terms_by}
 use Rattle.x12_profile.specs.Interchange.{Bytes, Needs}
 use Rattle.x12_profile.specs.Laws.{Laws, IsReply}
-use Rattle.x12_profile.specs.X12.{x12}
+use Rattle.x12_profile.specs.X12.{judged_by, x12}
 use Rattle.x12_profile.proofs.FieldLemmas as field
 use Rattle.x12_station.specs.Durable.{WasAnswered}
 use Rattle.x12_station.specs.History.{Came, posted_by}
@@ -37,19 +37,19 @@ use Rattle.x12_verify.specs.Arrived.{WasDueFrom, filed_rightly}
 within_both : (m n : ℕ) → m ≤ MAX_CONTROL_NUMBER → n ≤ MAX_CONTROL_NUMBER → (nat_le m MAX_CONTROL_NUMBER && nat_le n MAX_CONTROL_NUMBER) ≡ true
 within_both m n low high = grind (arith, nat_tests)
 
-module _ (b : Bytes) (h : Header) (known : header_of b ≡ Ok h) (a : List TradingAgreement) (own : ReplyHeader) (r : Option Bytes)
-    (due : WasDueFrom h (judgement_of own.me a h b) own r) where
+module _ (b : Bytes) (h : Header) (known : header_of b ≡ Ok h) (ed : Edition) (a : List TradingAgreement) (own : ReplyHeader) (r : Option Bytes)
+    (due : WasDueFrom h (judged_by ed own.me a h b) own r) where
   abbrev numbers : Numbers
   numbers = record { interchange = own.icn; group = own.gcn }
 
   abbrev is_due : Bool
-  is_due = is_reply_due h (judgement_of own.me a h b)
+  is_due = is_reply_due h (judged_by ed own.me a h b)
 
-  reply_needed : (by : Edition) → (x12.needs by own.me a b).reply ≡ is_due
-  reply_needed by = ap (λ (n : Needs). n.reply) (field.needs_is b h known by own.me a)
+  reply_needed : (x12.needs ed own.me a b).reply ≡ is_due
+  reply_needed = ap (λ (n : Needs). n.reply) (field.needs_is b h known ed own.me a)
 
-  pub was_answered : (book : Numbers) → own.icn ≤ book.interchange → own.gcn ≤ book.group → (by : Edition) → WasAnswered by own.me book (filed_rightly b r)
-  was_answered book interchange group ed = record {
+  pub was_answered : (book : Numbers) → own.icn ≤ book.interchange → own.gcn ≤ book.group → WasAnswered ed own.me book (filed_rightly b r)
+  was_answered book interchange group = record {
     agreements = a;
     at = own.at;
     numbers = numbers;
@@ -60,46 +60,46 @@ module _ (b : Bytes) (h : Header) (known : header_of b ≡ Ok h) (a : List Tradi
     where
       by : (t : Bool) → is_due ≡ t → r ≡ (if (x12.needs ed own.me a b).reply then Some (x12.reply ed own.me a own.at numbers b) else None)
       by true is =
-          due.reply ∙ sym (with_reply h (judgement_of own.me a h b) own.me own.at own.icn own.gcn is)
-          ∙ sym (if_true (x12.needs ed own.me a b).reply (Some (x12.reply ed own.me a own.at numbers b)) None (reply_needed ed ∙ is) ∙ ap Some (field.reply_is b h known ed own.me a own.at numbers))
+          due.reply ∙ sym (with_reply h (judged_by ed own.me a h b) own.me own.at own.icn own.gcn is)
+          ∙ sym (if_true (x12.needs ed own.me a b).reply (Some (x12.reply ed own.me a own.at numbers b)) None (reply_needed ∙ is) ∙ ap Some (field.reply_is b h known ed own.me a own.at numbers))
       by false is =
-          due.reply ∙ sym (no_reply h (judgement_of own.me a h b) own.me own.at own.icn own.gcn is)
-          ∙ sym (if_false (x12.needs ed own.me a b).reply (Some (x12.reply ed own.me a own.at numbers b)) None (reply_needed ed ∙ is))
+          due.reply ∙ sym (no_reply h (judged_by ed own.me a h b) own.me own.at own.icn own.gcn is)
+          ∙ sym (if_false (x12.needs ed own.me a b).reply (Some (x12.reply ed own.me a own.at numbers b)) None (reply_needed ∙ is))
 
   pub posts_so : Laws x12 → PostsWhatIsAccepted → IsTrue (x12.is_plain own.me) → own.icn ≤ MAX_CONTROL_NUMBER → own.gcn ≤ MAX_CONTROL_NUMBER
-      → accepted_by_verdict h.sender h.icn (judgement_of own.me a h b).verdict ≡ posted_by x12 (Came Second b r)
+      → accepted_by_verdict h.sender h.icn (judged_by ed own.me a h b).verdict ≡ posted_by x12 (Came ed b r)
   posts_so laws posts plain icn gcn = by is_due refl
     where
-      replied : is_due ≡ true → IsReply x12 own.me a b (written (reply_of h (judgement_of own.me a h b) own.me own.at own.icn own.gcn))
+      replied : is_due ≡ true → IsReply x12 own.me a b (written (reply_of h (judged_by ed own.me a h b) own.me own.at own.icn own.gcn))
       replied is = record {
-        edition = Second;
+        edition = ed;
         at = own.at;
         book = numbers;
         header = field.has_header_is b h known;
         plain = plain;
-        due = reply_needed Second ∙ is;
+        due = reply_needed ∙ is;
         icn_taken = due.icn_taken is;
-        gcn_taken = λ group. due.gcn_taken (sym (ap (λ (n : Needs). n.group) (field.needs_is b h known Second own.me a)) ∙ group);
+        gcn_taken = λ group. due.gcn_taken (sym (ap (λ (n : Needs). n.group) (field.needs_is b h known ed own.me a)) ∙ group);
         within = within_both own.icn own.gcn icn gcn;
-        bytes = sym (field.reply_is b h known Second own.me a own.at numbers);
+        bytes = sym (field.reply_is b h known ed own.me a own.at numbers);
       }
 
-      by : (t : Bool) → is_due ≡ t → accepted_by_verdict h.sender h.icn (judgement_of own.me a h b).verdict ≡ posted_by x12 (Came Second b r)
+      by : (t : Bool) → is_due ≡ t → accepted_by_verdict h.sender h.icn (judged_by ed own.me a h b).verdict ≡ posted_by x12 (Came ed b r)
       by true is =
-          sym (reply_posts own.me a b h known Second laws (written (reply_of h (judgement_of own.me a h b) own.me own.at own.icn own.gcn)) (replied is))
-          ∙ ap (λ o. posted_by x12 (Came Second b o)) (with_reply h (judgement_of own.me a h b) own.me own.at own.icn own.gcn is ∙ sym due.reply)
+          sym (reply_posts own.me a b h known ed laws (written (reply_of h (judged_by ed own.me a h b) own.me own.at own.icn own.gcn)) (replied is))
+          ∙ ap (λ o. posted_by x12 (Came ed b o)) (with_reply h (judged_by ed own.me a h b) own.me own.at own.icn own.gcn is ∙ sym due.reply)
       by false is =
-          posts.none (arrival h.sender h.icn b) (judgement_of own.me a h b) (record {
+          posts.none (arrival h.sender h.icn b) (judged_by ed own.me a h b) (record {
             me = own.me;
-            agreements = a;
+            terms = terms_by ed a;
             header = h;
             is_header = known;
             partner = refl;
             icn = refl;
             judgement = refl;
-            reply = record { at = own.at; icn = own.icn; gcn = own.gcn; is = no_reply h (judgement_of own.me a h b) own.me own.at own.icn own.gcn is };
+            reply = record { at = own.at; icn = own.icn; gcn = own.gcn; is = no_reply h (judged_by ed own.me a h b) own.me own.at own.icn own.gcn is };
           })
-          ∙ ap (λ o. posted_by x12 (Came Second b o)) (no_reply h (judgement_of own.me a h b) own.me own.at own.icn own.gcn is ∙ sym due.reply)
+          ∙ ap (λ o. posted_by x12 (Came ed b o)) (no_reply h (judged_by ed own.me a h b) own.me own.at own.icn own.gcn is ∙ sym due.reply)
 
 -- What was due, by what it takes.
 
@@ -130,16 +130,16 @@ pub seen_new : (a : Arrival) (h : Header) (b x : Bytes) → first a ≡ sighting
 unfolding sighting_of
 seen_new a h b x is same = let found : a ≡ arrival h.sender h.icn x = cc in found ∙ ap (λ y. arrival h.sender h.icn y) same
 
-pub has_due_reply : (a : Arrival) (b : Bytes) (h : Header) (known : header_of b ≡ Ok h) (ags : List TradingAgreement) (own : ReplyHeader) (j : InterchangeJudgement) (r q : Option Bytes)
-    → a ≡ arrival h.sender h.icn b → j ≡ judgement_of own.me ags h b → q ≡ r → WasDueFrom h (judgement_of own.me ags h b) own r → HasDueReply a j q
-has_due_reply a b h known ags own j r q arrived judged same due = record {
+pub has_due_reply : (a : Arrival) (b : Bytes) (h : Header) (known : header_of b ≡ Ok h) (ed : Edition) (ags : List TradingAgreement) (own : ReplyHeader) (j : InterchangeJudgement) (r q : Option Bytes)
+    → a ≡ arrival h.sender h.icn b → j ≡ judged_by ed own.me ags h b → q ≡ r → WasDueFrom h (judged_by ed own.me ags h b) own r → HasDueReply a j q
+has_due_reply a b h known ed ags own j r q arrived judged same due = record {
   me = own.me;
-  agreements = ags;
+  terms = terms_by ed ags;
   header = h;
   is_header = subst (λ (x : Arrival). header_of x.bytes ≡ Ok h) (sym arrived) known;
   partner = ap (λ (x : Arrival). x.partner) (sym arrived);
   icn = ap (λ (x : Arrival). x.icn) (sym arrived);
-  judgement = judged ∙ ap (λ (x : Arrival). judgement_of own.me ags h x.bytes) (sym arrived);
+  judgement = judged ∙ ap (λ (x : Arrival). judged_by ed own.me ags h x.bytes) (sym arrived);
   reply = record { at = own.at; icn = own.icn; gcn = own.gcn; is = same ∙ due.reply ∙ ap (λ (i : InterchangeJudgement). due_reply h i own.me own.at own.icn own.gcn) (sym judged) };
 }
 

@@ -16,7 +16,7 @@ use Rattle.x12_numbers.proofs.Shelf.{all_from_contains, contains_cons, contains_
 use Rattle.x12_outbound.specs.Entry.{InterchangeRow}
 use Rattle.x12_profile.specs.Edition.{edition_at}
 use Rattle.x12_profile.specs.X12.{x12}
-use Rattle.x12_station.specs.Durable.{IsFiledRightly, IsAnsweredRightly, IsHistoryOf, IsOwnSubmission, WasAnswered, fared_entries, items_of}
+use Rattle.x12_station.specs.Durable.{IsFiledRightly, IsAnsweredRightly, IsHistoryOf, IsOwnSubmission, WasAnswered, fared_entries, item_of_arrival, items_of}
 use Rattle.x12_station.specs.History.{HasCame, Item, Submitted, Came, KeptArrival, postings, submissions}
 use Rattle.x12_station.specs.Stored.{AreNumbered, IsSound, Origin, Stored, StoredArrival, entries, entry_of_row, marks_of}
 use Rattle.x12_station.proofs.EntryLemmas.{entries_rise}
@@ -30,15 +30,8 @@ use Rattle.x12_verify.specs.Arrived.{IsRightArrival, filed_rightly}
 use Rattle.x12_verify.specs.Entries.{IsRightSubmission, StandsInBoth}
 use Rattle.x12_verify.specs.Told.{HoldsTold, IsRightItem, all_as_told, items_up_to}
 use Rattle.x12_verify.proofs.ApartLemmas.{AreApart, apart_by_pairs, apart_if_distinct, one_for_key, same_lists}
+use Rattle.x12_verify.proofs.PlacedLemmas.{in_history}
 use Rattle.x12_verify.proofs.ToldLemmas.{all_items, same_arrivals, same_fates, same_submissions}
-
-in_came : (items : List Item) (k : KeptArrival) → Contains (came items) k → HasCame items k.body k.reply
-in_came [] k at = none_in_nil k at
-in_came (Submitted x ∷ items) k at = came_later (Submitted x) items k.body k.reply (in_came items k at)
-in_came (Came ed b r ∷ items) k at = elim (contains_cons k (record { body = b; reply = r }) (came items) at) [
-  | inl is ↦ subst (λ (q : KeptArrival). HasCame (Came ed b r ∷ items) q.body q.reply) is (ed, contains_head (Came ed b r) items)
-  | inr later ↦ came_later (Came ed b r) items k.body k.reply (in_came items k later)
-]
 
 -- the submissions of sound records
 bytes_are : (s : Stored) → AreNumbered s → map (λ e. e.bytes) (entries s) ≡ submissions (items_of s)
@@ -91,10 +84,9 @@ module _ (me : Party) (hubs : List Party) (s d : Stored) (sound : IsSound s) (wr
     arrived_once : AreApart (map (λ (r : StoredArrival). r.filed.bytes) s.arrived)
     arrived_once = subst AreApart (sym (arrivals_are d wrote.sound.numbered) ∙ same_arrivals (items_of d) (items_of s) same ∙ arrivals_are s sound.numbered) (arrived_apart me hubs d wrote)
 
-    right_arrival : (r : StoredArrival) → Contains s.arrived r → IsRightArrival s me s.book r.filed.bytes r.filed.reply
+    right_arrival : (r : StoredArrival) → Contains s.arrived r → IsRightArrival s me s.book (edition_at (marks_of s.origin) r.seq) r.filed.bytes r.filed.reply
     right_arrival r at =
-        let there = in_came (items_of s) (filed_of_row r) (subst (λ l. Contains l (filed_of_row r)) (sym (came_are s sound.numbered)) (contains_mapped filed_of_row s.arrived r at)) in
-        All-contains (IsRightItem s me s.book) (items_of s) (Came there.0 r.filed.bytes r.filed.reply) right there.1
+        All-contains (IsRightItem s me s.book) (items_of s) (item_of_arrival (marks_of s.origin) r.seq r) right (in_history s sound.numbered r at)
 
     filed_is : (r : StoredArrival) → Contains s.arrived r → r.filed ≡ filed_rightly r.filed.bytes r.filed.reply
     filed_is r at =
@@ -114,7 +106,7 @@ module _ (me : Party) (hubs : List Party) (s d : Stored) (sound : IsSound s) (wr
     pub answered_are : All (IsAnsweredRightly (marks_of s.origin) me s.book) s.arrived
     answered_are = all_from_contains (IsAnsweredRightly (marks_of s.origin) me s.book) s.arrived (λ r at.
         let by = edition_at (marks_of s.origin) r.seq in
-        ∣ subst (WasAnswered by me s.book) (sym (filed_is r at)) ((right_arrival r at).answered by) ∣₁)
+        ∣ subst (WasAnswered by me s.book) (sym (filed_is r at)) (right_arrival r at).answered ∣₁)
 
     pub history_is : (s.origin.me ≡ me) × (s.origin.hubs ≡ hubs) → All (IsRightSubmission (entries s) (entries d)) (items_of d) → s.postings ≡ postings x12 (items_of s) → IsHistoryOf me hubs s
     history_is origin stand posted = record {

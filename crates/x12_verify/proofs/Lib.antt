@@ -3,4 +3,5 @@ mod ToldLemmas
 mod EntryLemmas
 mod DueLemmas
 mod AgainLemmas
+mod PlacedLemmas
 mod HistoryLemmas

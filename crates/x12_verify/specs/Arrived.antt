@@ -26,9 +26,10 @@ abbrev pub filed_rightly : Bytes → Option Bytes → FiledInterchange
 filed_rightly b r =
     record { partner = x12.sender b; icn = x12.number b; bytes = b; reply = r }
 
--- An arrival can be read, is filed under its own sender and number, and its reply was due.
-pub record IsRightArrival (s : Stored) (me : Party) (book : Numbers) (b : Bytes)
+-- An arrival can be read, is filed under its own sender and number, and its reply was due by this
+-- edition.
+pub record IsRightArrival (s : Stored) (me : Party) (book : Numbers) (by : Edition) (b : Bytes)
     (r : Option Bytes) : Type 0 where
   pub header : IsTrue (x12.has_header b)
   pub filed : filed_in s (x12.sender b) (x12.number b) ≡ Some (filed_rightly b r)
-  pub answered : (by : Edition) → WasAnswered by me book (filed_rightly b r)
+  pub answered : WasAnswered by me book (filed_rightly b r)

@@ -25,10 +25,10 @@ all_as_told items = map as_told items
 abbrev pub items_up_to : Stored → ℕ → List Item
 items_up_to s n = flat_map (λ k. option_to_list (item_at s k)) (range_with_len 1 n)
 
--- what was submitted is as it is; an arrival is filed and answered rightly
+-- what was submitted is as it is; an arrival is filed rightly, and answered rightly by its edition
 abbrev pub IsRightItem : Stored → Party → Numbers → Item → Type 0
 IsRightItem s me book (Submitted x) = Unit {0}
-IsRightItem s me book (Came by b r) = IsRightArrival s me book b r
+IsRightItem s me book (Came by b r) = IsRightArrival s me book by b r
 
 -- of the same party at the same hubs, with the same marks
 abbrev pub HasSameOrigin : Station → Station → Type 0

@@ -5,23 +5,23 @@ ghost use Rattle.x12_envelopes.specs.Header.{header_of};
 ghost use Rattle.x12_envelopes.specs.Party.{is_plain_party};
 ghost use Rattle.x12_inbound.specs.Filing.{reply_bytes};
 ghost use Rattle.x12_inbound.specs.Posting.{posting_view};
-ghost use Rattle.x12_judge.specs.Agreement.{agreement_view};
-ghost use Rattle.x12_judge.specs.Verdict.{judgement_of};
-ghost use Rattle.x12_profile.specs.declared.edition.Edition.TheVariants.{Second};
+ghost use Rattle.x12_profile.specs.Edition.{edition_at};
 ghost use Rattle.x12_profile.specs.X12.{x12};
 ghost use Rattle.x12_station.specs.History.{Came, posted_by};
+ghost use Rattle.x12_station.specs.Record.{owner_view};
 ghost use Rattle.x12_station.specs.Standing.{WereAsked};
-ghost use Rattle.x12_station.specs.Stored.{filed_in};
+ghost use Rattle.x12_station.specs.Stored.{filed_in, marks_of};
 ghost use Rattle.std.specs.Prelude.{Some};
-ghost use Rattle.x12_verify.specs.Arrived.{WasDueFrom, IsRightArrival, filed_rightly};
+ghost use Rattle.x12_verify.specs.Arrived.{IsRightArrival, filed_rightly};
 
 use crate::difference::{Difference, Stop};
-use crate::due::{Due, find_due};
+use crate::due::find_due;
 use crate::posted::{Postings, keep, strip};
 use std::alloc::{AllocError, Global};
 use x12_acks::ReplyHeader;
 use x12_envelopes::{Header, Moment, OutlineFault, outline, read_header};
-use x12_inbound::Filed;
+use x12_inbound::{Filed, Kept};
+use x12_profile::Edition;
 use x12_station::{Loaded, Owner, Records};
 
 /// Whose records are verified, and what they have in force.
@@ -117,32 +117,17 @@ fn own_of(holder: &Holder<'_>, number: u64, filed: &Filed) -> Result<ReplyHeader
 }
 
 /// Tests that the postings begin with those of an arrival, and gives those behind them.
-fn take_posted<'a>(
-    holder: &Holder<'_>,
-    header: &Header,
-    own: &ReplyHeader,
-    due: &Due,
-    filed: &Filed,
-    postings: Postings<'a>,
-) -> Result<Postings<'a>, Stop>
-    requires read { header_of filed.now.bytes.items ≡ Ok header.now }
-    requires plain { IsTrue (is_plain_party own.now.me) }
-    requires numbers { (own.now.icn ≤ 999999999) × (own.now.gcn ≤ 999999999) }
-    requires due { WasDueFrom header.now (judgement_of own.now.me
-        (map agreement_view due.now.agreements.items) header.now filed.now.bytes.items)
-        (record own.now { at = due.now.at }) (reply_bytes filed.now.reply) }
+fn take_posted<'a>(kept: Kept, postings: Postings<'a>) -> Result<Postings<'a>, Stop>
     ensures { IfOk result (λ more. map posting_view postings.entry.left.now
-        ≡ posted_by x12 (Came Second filed.now.bytes.items (reply_bytes filed.now.reply))
-        ++ map posting_view more.left.now) }
+        ≡ kept.postings ++ map posting_view more.left.now) }
 {
-    let kept = keep(holder.alloc, header, own, due, filed)?;
     let (_, _, _, theirs) = kept.view();
     let left = strip(postings, theirs);
     kept.discard();
     left
 }
 
-/// Tests an arrival, and gives the postings behind its own.
+/// Tests an arrival by the edition of its number, and gives the postings behind its own.
 pub(crate) fn take_arrival<'a, R: Records>(
     records: &mut R,
     holder: &Holder<'_>,
@@ -153,21 +138,25 @@ pub(crate) fn take_arrival<'a, R: Records>(
     requires valid { R.valid records.old }
     requires plain { IsTrue (is_plain_party holder.now.owner.party) }
     ensures asked { WereAsked R.Records records.old records.new }
-    ensures right { IsTrue (R.answers records.new) → OnOk result
+    ensures right { let by = edition_at (marks_of (owner_view holder.now.owner)) number in
+        IsTrue (R.answers records.new) → OnOk result
         (IsRightArrival (R.content records.old) holder.now.owner.party holder.now.loaded.now.book
-        filed.now.bytes.items (reply_bytes filed.now.reply)) }
-    ensures posted { IfOk result (λ more. map posting_view postings.entry.left.now
-        ≡ posted_by x12 (Came Second filed.now.bytes.items (reply_bytes filed.now.reply))
+        by filed.now.bytes.items (reply_bytes filed.now.reply)) }
+    ensures posted { let by = edition_at (marks_of (owner_view holder.now.owner)) number in
+        IfOk result (λ more. map posting_view postings.entry.left.now
+        ≡ posted_by x12 (Came by filed.now.bytes.items (reply_bytes filed.now.reply))
         ++ map posting_view more.left.now) }
 {
     let Ok(header) = read_header(&filed.bytes) else {
         return Err(Stop::Differs(Difference::NoHeader(number)));
     };
     test_filed(records, &header, number, filed)?;
+    let edition = Edition::at(holder.owner.marks(), number);
     let own = own_of(holder, number, filed)?;
     let Some(due) = find_due(
         holder.alloc,
         &holder.loaded.agreements,
+        edition,
         &header,
         &own,
         filed,
@@ -175,5 +164,6 @@ pub(crate) fn take_arrival<'a, R: Records>(
     else {
         return Err(Stop::Differs(Difference::NotDue(number)));
     };
-    Ok(take_posted(holder, &header, &own, &due, filed, postings)?)
+    let kept = keep(holder.alloc, edition, &header, &own, &due, filed)?;
+    Ok(take_posted(kept, postings)?)
 }

@@ -12,14 +12,16 @@ ghost use Rattle.x12_envelopes.specs.Envelope.{written};
 ghost use Rattle.x12_envelopes.specs.Header.{header_of};
 ghost use Rattle.x12_inbound.specs.Filing.{reply_bytes};
 ghost use Rattle.x12_judge.specs.Agreement.{agreement_view};
-ghost use Rattle.x12_judge.specs.Verdict.{judgement_of, judgement_view};
+ghost use Rattle.x12_judge.specs.Verdict.{judgement_view};
+ghost use Rattle.x12_profile.specs.X12.{judged_by};
 ghost use Rattle.x12_verify.specs.Arrived.{WasDueFrom};
 
 use std::alloc::{AllocError, Global};
 use x12_acks::{Needs, ReplyHeader, needs, write_reply};
 use x12_envelopes::{Header, Moment, Outline, OutlineFault, Party, outline, read_header};
 use x12_inbound::Filed;
-use x12_judge::{Agreement, Judgement, judge};
+use x12_judge::{Agreement, Judgement, judge_by};
+use x12_profile::Edition;
 
 /// A pair of GS01 and ST01.
 pub(crate) type Pair = ([u8; 2], [u8; 3]);
@@ -173,12 +175,26 @@ fn due_at(
     }
 }
 
-/// Under which agreement and when the reply was due, where these pairs are taken from the sender,
-/// leniently or not.
-fn due_by(
+/// An agreement by which these pairs are taken from a partner, leniently or not.
+fn agreement_on(
     alloc: Global,
+    partner: Party,
     pairs: &[Pair],
     lenient: bool,
+) -> Result<Agreement, AllocError> {
+    Ok(Agreement {
+        partner,
+        lenient,
+        pairs: Vec::from_slice(alloc, pairs)?,
+    })
+}
+
+/// Under which agreement and when the reply was due by this edition, where this agreement is the only
+/// one.
+fn due_by(
+    alloc: Global,
+    agreement: Agreement,
+    edition: Edition,
     header: &Header,
     own: &ReplyHeader,
     filed: &Filed,
@@ -186,16 +202,12 @@ fn due_by(
     requires read { header_of filed.now.bytes.items ≡ Ok header.now }
     requires number { own.now.icn ≤ 999999999 }
     ensures { IfOk result (λ o. IfSome o (λ d. WasDueFrom header.now
-        (judgement_of own.now.me (map agreement_view d.agreements.items) header.now
+        (judged_by edition own.now.me (map agreement_view d.agreements.items) header.now
         filed.now.bytes.items) (record own.now { at = d.at }) (reply_bytes filed.now.reply))) }
 {
-    let agreement = Agreement {
-        partner: header.sender,
-        lenient,
-        pairs: Vec::from_slice(alloc, pairs)?,
-    };
     let agreements = vec![in alloc; agreement]?;
-    let judgement = judge(alloc, &own.me, &agreements, &filed.bytes, header)?;
+    let controls = edition.controls();
+    let judgement = judge_by(alloc, &own.me, &agreements, controls, &filed.bytes, header)?;
     match due_at(alloc, header, &judgement, own, filed)? {
         Some(at) => Ok(Some(Due { agreements, at })),
         None => Ok(None),
@@ -206,6 +218,7 @@ fn due_by(
 fn due_either(
     alloc: Global,
     pairs: &[Pair],
+    edition: Edition,
     header: &Header,
     own: &ReplyHeader,
     filed: &Filed,
@@ -213,13 +226,15 @@ fn due_either(
     requires read { header_of filed.now.bytes.items ≡ Ok header.now }
     requires number { own.now.icn ≤ 999999999 }
     ensures { IfOk result (λ o. IfSome o (λ d. WasDueFrom header.now
-        (judgement_of own.now.me (map agreement_view d.agreements.items) header.now
+        (judged_by edition own.now.me (map agreement_view d.agreements.items) header.now
         filed.now.bytes.items) (record own.now { at = d.at }) (reply_bytes filed.now.reply))) }
 {
-    if let Some(due) = due_by(alloc, pairs, false, header, own, filed)? {
+    let strict = agreement_on(alloc, header.sender, pairs, false)?;
+    if let Some(due) = due_by(alloc, strict, edition, header, own, filed)? {
         return Ok(Some(due));
     }
-    due_by(alloc, pairs, true, header, own, filed)
+    let lenient = agreement_on(alloc, header.sender, pairs, true)?;
+    due_by(alloc, lenient, edition, header, own, filed)
 }
 
 /// Adds a pair, if it isn't among them.
@@ -278,12 +293,14 @@ fn pairs_now<'a>(agreements: &'a [Agreement], partner: &Party) -> &'a [Pair] {
     &[]
 }
 
-/// Under which agreement and when what is kept as the reply to an arrival was due; `None` where
-/// nothing makes it so. `own` has who answers and the reply's numbers. Of a reply that was due by an
-/// agreement that is no more, to an arrival of more than ten such pairs, it may say `None` too.
+/// Under which agreement and when what is kept as the reply to an arrival was due by the edition of
+/// its number; `None` where nothing makes it so. `own` has who answers and the reply's numbers. Of a
+/// reply that was due by an agreement that is no more, to an arrival of more than ten such pairs, it
+/// may say `None` too.
 pub(crate) fn find_due(
     alloc: Global,
     agreements: &[Agreement],
+    edition: Edition,
     header: &Header,
     own: &ReplyHeader,
     filed: &Filed,
@@ -291,11 +308,11 @@ pub(crate) fn find_due(
     requires read { header_of filed.now.bytes.items ≡ Ok header.now }
     requires number { own.now.icn ≤ 999999999 }
     ensures { IfOk result (λ o. IfSome o (λ d. WasDueFrom header.now
-        (judgement_of own.now.me (map agreement_view d.agreements.items) header.now
+        (judged_by edition own.now.me (map agreement_view d.agreements.items) header.now
         filed.now.bytes.items) (record own.now { at = d.at }) (reply_bytes filed.now.reply))) }
 {
     let now = pairs_now(agreements, &header.sender);
-    if let Some(due) = due_either(alloc, now, header, own, filed)? {
+    if let Some(due) = due_either(alloc, now, edition, header, own, filed)? {
         return Ok(Some(due));
     }
     let pairs = pairs_of(alloc, &filed.bytes, header)?;
@@ -303,7 +320,7 @@ pub(crate) fn find_due(
         let Some(taken) = chosen(alloc, &pairs, choice)? else {
             return Ok(None);
         };
-        if let Some(due) = due_either(alloc, &taken, header, own, filed)? {
+        if let Some(due) = due_either(alloc, &taken, edition, header, own, filed)? {
             return Ok(Some(due));
         }
     }

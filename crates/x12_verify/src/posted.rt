@@ -6,9 +6,7 @@ ghost use Rattle.x12_envelopes.specs.Party.{is_plain_party};
 ghost use Rattle.x12_inbound.specs.Filing.{reply_bytes};
 ghost use Rattle.x12_inbound.specs.Posting.{posting_view};
 ghost use Rattle.x12_judge.specs.Agreement.{agreement_view};
-ghost use Rattle.x12_judge.specs.Verdict.{judgement_of};
-ghost use Rattle.x12_profile.specs.declared.edition.Edition.TheVariants.{Second};
-ghost use Rattle.x12_profile.specs.X12.{x12};
+ghost use Rattle.x12_profile.specs.X12.{judged_by, x12};
 ghost use Rattle.x12_station.specs.History.{Came, posted_by};
 ghost use Rattle.x12_verify.specs.Arrived.{WasDueFrom};
 
@@ -19,8 +17,8 @@ use std::alloc::{AllocError, Global};
 use x12_acks::ReplyHeader;
 use x12_envelopes::Header;
 use x12_inbound::{Filed, Kept, Posting, Seen, look, what_is_posted_was_accepted};
-use x12_judge::judge;
-use x12_profile::x12_meets_the_laws;
+use x12_judge::judge_by;
+use x12_profile::{Edition, x12_meets_the_laws};
 
 /// A copy of what is kept as the reply.
 fn copied_reply(alloc: Global, filed: &Filed) -> Result<Option<Vec<u8>>, AllocError>
@@ -32,9 +30,10 @@ fn copied_reply(alloc: Global, filed: &Filed) -> Result<Option<Vec<u8>>, AllocEr
     }
 }
 
-/// An arrival with the postings that its reply accepts.
+/// An arrival of this edition, with the postings that its reply accepts.
 pub(crate) fn keep(
     alloc: Global,
+    edition: Edition,
     header: &Header,
     own: &ReplyHeader,
     due: &Due,
@@ -43,16 +42,24 @@ pub(crate) fn keep(
     requires read { header_of filed.now.bytes.items ≡ Ok header.now }
     requires plain { IsTrue (is_plain_party own.now.me) }
     requires numbers { (own.now.icn ≤ 999999999) × (own.now.gcn ≤ 999999999) }
-    requires due { WasDueFrom header.now (judgement_of own.now.me
+    requires due { WasDueFrom header.now (judged_by edition own.now.me
         (map agreement_view due.now.agreements.items) header.now filed.now.bytes.items)
         (record own.now { at = due.now.at }) (reply_bytes filed.now.reply) }
     ensures { IfOk result (λ k. k.postings
-        ≡ posted_by x12 (Came Second filed.now.bytes.items (reply_bytes filed.now.reply))) }
+        ≡ posted_by x12 (Came edition filed.now.bytes.items (reply_bytes filed.now.reply))) }
 {
     // laws: X12 is as the network asks, and what is posted was accepted
     x12_meets_the_laws();
     what_is_posted_was_accepted();
-    let judgement = judge(alloc, &own.me, &due.agreements, &filed.bytes, header)?;
+    let controls = edition.controls();
+    let judgement = judge_by(
+        alloc,
+        &own.me,
+        &due.agreements,
+        controls,
+        &filed.bytes,
+        header,
+    )?;
     let reply = copied_reply(alloc, filed)?;
     let Seen::New(arrived) = look(None, &header.sender, header.icn, &filed.bytes) else {
         return Err(AllocError);

@@ -1,11 +1,12 @@
 //! The items of a history, told again one by one.
 
-ghost use Rattle.std.specs.Prelude.{◌≡◌, ◌≤◌, ◌+◌, ◌-◌, ◌^◌, [], IsTrue, IfOk, length, map};
+ghost use Rattle.std.specs.Prelude.{◌≡◌, ◌≤◌, ◌+◌, ◌-◌, ◌^◌, IsTrue, IfOk, length, map};
 ghost use Rattle.x12_envelopes.specs.Party.{is_plain_party};
 ghost use Rattle.x12_inbound.specs.Posting.{posting_view};
+ghost use Rattle.x12_station.specs.Record.{owner_view};
 ghost use Rattle.x12_station.specs.Standing.{WereAsked};
 ghost use Rattle.x12_station.specs.Stored.{marks_of};
-ghost use Rattle.x12_verify.specs.Told.{IsTold, AreTold};
+ghost use Rattle.x12_verify.specs.Told.{AreTold, IsOpenAgain, IsTold};
 
 use crate::again::{Again, hear_again, submit_again};
 use crate::arrived::{Holder, take_arrival};
@@ -37,6 +38,8 @@ fn tell_item<'a, R: Records>(
         length again.old.state.items + 1 ≡ number }
     requires marks { IsTrue (R.answers records.old) → IsTrue again.old.answers →
         again.old.state.marks ≡ marks_of (R.content records.old).origin }
+    requires origin { IsTrue (R.answers records.old) →
+        (R.content records.old).origin ≡ owner_view holder.now.owner }
     ensures asked { WereAsked R.Records records.old records.new }
     ensures never_won_back { IsTrue again.new.answers → IsTrue again.old.answers }
     ensures told { IsTrue (R.answers records.new) → IsTrue again.new.answers →
@@ -78,9 +81,10 @@ pub(crate) fn tell_all<'a, R: Records>(
     requires valid { R.valid records.old }
     requires plain { IsTrue (is_plain_party holder.now.owner.party) }
     requires few { holder.now.loaded.now.seq ≤ 2 ^ 63 - 1 }
-    requires empty { IsTrue again.old.answers → again.old.state.items ≡ [] }
-    requires marks { IsTrue (R.answers records.old) → IsTrue again.old.answers →
-        again.old.state.marks ≡ marks_of (R.content records.old).origin }
+    requires open { IsTrue again.old.answers →
+        IsOpenAgain (owner_view holder.now.owner) again.old.state }
+    requires origin { IsTrue (R.answers records.old) →
+        (R.content records.old).origin ≡ owner_view holder.now.owner }
     ensures asked { WereAsked R.Records records.old records.new }
     ensures never_won_back { IsTrue again.new.answers → IsTrue again.old.answers }
     ensures told { IsTrue (R.answers records.new) → IsTrue again.new.answers →

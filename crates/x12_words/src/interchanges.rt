@@ -13,12 +13,12 @@ pub(crate) static NOTES: [Wording; 28] = [
     Wording(
         "002",
         "the interchange standard isn't supported",
-        "write U into ISA11",
+        "write U into ISA11, or from version 00402 on a repetition separator",
     ),
     Wording(
         "003",
         "the version of the interchange controls isn't supported",
-        "write a version from 00200 to 00401 into ISA12",
+        "write a version from 00200 to 00501 into ISA12",
     ),
     Wording(
         "004",

@@ -10,7 +10,7 @@ use Rattle.std.proofs.lemmas.List.Elements.{Contains-append_cases, Contains-appe
 use Rattle.std.proofs.lemmas.Bool.Decides.{Decides-ltb, nat_tests}
 use Rattle.std.proofs.lemmas.Bool.{leb-true, and_parts}
 use Rattle.x12_envelopes.specs.declared.moment.Moment.{Moment}
-use Rattle.x12_profile.specs.declared.edition.Edition.TheVariants.{First, Second}
+use Rattle.x12_profile.specs.declared.edition.Edition.TheVariants.{First, Second, Third}
 use Rattle.x12_profile.specs.Edition.{Marks, edition_at, no_marks}
 use Rattle.x12_profile.specs.Interchange.{Bytes, Book, Needs, book_for, is_within}
 use Rattle.x12_profile.specs.Profile.{Profile}
@@ -52,7 +52,7 @@ gcn_up book needs = by needs.group
 -- what comes next to a station without marks is read by the newest edition
 is_newest : (n : ℕ) → edition_at no_marks (n + 1) ≡ newest
 unfolding edition_at
-is_newest n = ap (λ b. if b then First else Second) (behind n)
+is_newest n = ap (λ b. if b then First else (if b then Second else Third)) (behind n)
   where
     behind : (n : ℕ) → nat_le (n + 1) 0 ≡ false
     behind n = grind (arith, nat_tests)

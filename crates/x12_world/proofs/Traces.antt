@@ -5,7 +5,7 @@ use Rattle.std.specs.Prelude.{◌≡◌, ◌≢◌, ℕ, ◌<◌, ◌≤◌, Lis
 use Rattle.x12_envelopes.specs.declared.party.Party.{Party}
 use Rattle.x12_judge.specs.Agreement.{TradingAgreement}
 use Rattle.x12_profile.specs.declared.edition.Edition.{Edition}
-use Rattle.x12_profile.specs.declared.edition.Edition.TheVariants.{Second}
+use Rattle.x12_profile.specs.declared.edition.Edition.TheVariants.{Third}
 use Rattle.x12_profile.specs.Interchange.{Bytes}
 use Rattle.x12_profile.specs.Profile.{Profile}
 use Rattle.x12_profile.specs.Laws.{IsReply, IsTa1Refusal, SharesGroup}
@@ -28,7 +28,7 @@ pub record Trace : Type 0 where
 
 -- the edition by which every arrival of a network is judged and read
 abbrev pub newest : Edition
-newest = Second
+newest = Third
 
 -- some packet ever sent carries b
 pub record IsCarried (t : Trace) (b : Bytes) : Type 0 where

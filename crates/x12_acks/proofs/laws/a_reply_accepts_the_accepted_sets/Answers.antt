@@ -13,6 +13,6 @@ returns c =
       law = record {
         segments = segments_accept read.readable;
         named = segments_name read.readable;
-        bytes = λ me agreements h bytes x at icn gcn is_header is_outline may small few. bytes_accept read.readable elements header outline fit me agreements h bytes x at icn gcn is_outline (fits me agreements h bytes at icn gcn is_header may small few);
+        bytes = λ me terms h bytes x at icn gcn is_header is_outline may small few. bytes_accept read.readable elements header outline fit me terms h bytes x at icn gcn is_outline (fits me terms h bytes at icn gcn is_header may small few);
       };
     }

@@ -6,7 +6,7 @@ returns c =
     let read = c.numbers_are_readable.ensures in
     record {
       law = record {
-        reply = λ hubs submissions agreements h bytes x at icn gcn. reply_tells hubs submissions agreements h bytes x at icn gcn read.readable read.header;
+        reply = λ hubs submissions terms h bytes x at icn gcn. reply_tells hubs submissions terms h bytes x at icn gcn read.readable read.header;
         refusal = λ hubs from submissions note h bytes x at icn. refusal_tells hubs from submissions note h bytes x at icn read.header;
       };
     }

@@ -11,7 +11,7 @@ pub make_postings-requires : goal.make_postings-requires
 make_postings-requires c =
     let r = c.requires in
     subst (λ (j : InterchangeJudgement). HasFewSets j.verdict) (sym r.judgement)
-    (few_if_small _ (c.judgements_are_small.ensures.small r.me r.agreements r.header c.args.self.bytes.now))
+    (few_if_small _ (c.judgements_are_small.ensures.small r.me r.terms r.header c.args.self.bytes.now))
 
 pub invariant_of-result : goal.invariant_of-result
 invariant_of-result c =
@@ -23,4 +23,4 @@ invariant_of-result c =
     }) in
     subst (ArePostingsOf filed) (sym c.in-Ok.ensures)
     (subst (λ (j : InterchangeJudgement). ArePostingsOf filed (accepted_by_verdict filed.partner filed.icn j.verdict)) (sym r.judgement)
-    (are_postings r.me r.agreements r.header c.args.self.bytes.now filed))
+    (are_postings r.me r.terms r.header c.args.self.bytes.now filed))
