@@ -35,10 +35,10 @@ use Rattle.x12_station_records.specs.declared.station_committing.NextRows.{NextR
 use Rattle.x12_station_records.specs.declared.station_numbers.NumbersRow.{NumbersRow}
 
 abbrev pub renew_text : List ℕ
-renew_text = codes "UPDATE numbers SET version = 2, noted = ?1, era = ?2"
+renew_text = codes "UPDATE numbers SET version = 3, noted = ?1, era = ?2"
 
 abbrev renew_shows : List Term
-renew_shows = col 1 0 ∷ col 1 0 ∷ lit Null ∷ lit (Int (pos 2)) ∷ col 1 3 ∷ col 1 4 ∷ col 1 5 ∷ col 1 6 ∷ col 1 7 ∷ col 1 8 ∷ col 1 9 ∷ col 0 0 ∷ col 0 1 ∷ []
+renew_shows = col 1 0 ∷ col 1 0 ∷ lit Null ∷ lit (Int (pos 3)) ∷ col 1 3 ∷ col 1 4 ∷ col 1 5 ∷ col 1 6 ∷ col 1 7 ∷ col 1 8 ∷ col 1 9 ∷ col 0 0 ∷ col 0 1 ∷ []
 
 renew_is : (command_of (understood station_schema renew_text) ≡ Update 0 (record { lets = []; body = one_table 0 [] renew_shows [] })) × IsPlain (understood station_schema renew_text)
 unfolding understood everything
@@ -46,7 +46,7 @@ renew_is = (refl, (refl, refl))
 
 -- the row of the newest version with these marks
 abbrev renewed : ℕ → ℕ → NumbersRow → NumbersRow
-renewed noted era n = record n { version = 2; owner = record n.owner { noted = noted; era = era } }
+renewed noted era n = record n { version = 3; owner = record n.owner { noted = noted; era = era } }
 
 marks_back : (k : KeptNumbers) (noted era : ℕ) → k.origin.noted ≡ noted → k.origin.era ≡ era → record k { origin = record k.origin { noted = noted; era = era } } ≡ k
 marks_back k noted era n e = rw (sym n, sym e) refl
@@ -149,9 +149,9 @@ module _ {E : Type 0} (party : Party) (hubs : List Party) (x : NextRows × Numbe
 abbrev IsOfWriting : RecordsFault → Type 0
 IsOfWriting fault = (fault ≡ Memory) ⊎ (fault ≡ Store)
 
-pub writing_not_old : {B : Type 0} (fault : RecordsFault) → IsOfWriting fault → ◌≡◌ {A = Result B RecordsFault} (Err fault) (Err OldVersion) → ⊥
-writing_not_old fault (inl memory) same = absurd (let clash = rw memory at same in cc)
-writing_not_old fault (inr store) same = absurd (let clash = rw store at same in cc)
+pub writing_not_old : {B : Type 0} (fault : RecordsFault) (was : ℕ) → IsOfWriting fault → ◌≡◌ {A = Result B RecordsFault} (Err fault) (Err (OldVersion was)) → ⊥
+writing_not_old fault was (inl memory) same = absurd (let clash = rw memory at same in cc)
+writing_not_old fault was (inr store) same = absurd (let clash = rw store at same in cc)
 
 pub writing_names_none : {B : Type 0} (fault : RecordsFault) (found wanted : Party) → IsOfWriting fault → ◌≡◌ {A = Result B RecordsFault} (Err fault) (Err (OtherParty found wanted)) → ⊥
 writing_names_none fault found wanted (inl memory) same = absurd (let clash = rw memory at same in cc)

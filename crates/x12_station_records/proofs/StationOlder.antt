@@ -23,54 +23,54 @@ use Rattle.x12_station_records.specs.StationSchema.{station_schema}
 use Rattle.x12_station_records.specs.StationTaken.{HoldsOlder, HoldsStationOf, RefusesLeft}
 
 -- The row that the query shows is the one of the table.
-module _ (oldest : ℕ) (old new : State) (has : old.now.schema ≡ station_schema) (rows : List Row) (shown : Shown numbers_text [] old new rows) where
-  pub older_found : IsOfOlder oldest rows → HoldsOlder oldest old.now
+module _ (oldest version : ℕ) (old new : State) (has : old.now.schema ≡ station_schema) (rows : List Row) (shown : Shown numbers_text [] old new rows) where
+  pub older_found : IsOfOlder oldest version rows → HoldsOlder oldest version old.now
   older_found are =
       let got = reads_as numbers_text [] old new station_schema has numbers_command numbers_is.0 numbers_is.2 numbers_is.1 rows shown in
       let all = read_rows 0 numbers_shows [] (overlay old.now.trees []) rows (got.answer Null) in
-      found all.0 all.1 (subst (IsOfOlder oldest) all.2 are)
+      found all.0 all.1 (subst (IsOfOlder oldest version) all.2 are)
     where
-      found : (rs : List Row) → IsPermutation (old.now.trees 0) rs → IsOfOlder oldest (map show_numbers rs) → HoldsOlder oldest old.now
+      found : (rs : List Row) → IsPermutation (old.now.trees 0) rs → IsOfOlder oldest version (map show_numbers rs) → HoldsOlder oldest version old.now
       found [] moved are = absurd are
-      found (r ∷ []) moved are = record { schema = has; row = r; one = one_permutation r (old.now.trees 0) (IsPermutation-sym (old.now.trees 0) (r ∷ []) moved); version = are.0; version_is = are.1; older = (are.2, are.3) }
+      found (r ∷ []) moved are = record { schema = has; row = r; one = one_permutation r (old.now.trees 0) (IsPermutation-sym (old.now.trees 0) (r ∷ []) moved); version_is = are.0; older = (are.1, are.2) }
       found (r ∷ s ∷ rs) moved are = absurd are
 
-  pub older_shown : HoldsOlder oldest old.now → IsOfOlder oldest rows
+  pub older_shown : HoldsOlder oldest version old.now → IsOfOlder oldest version rows
   older_shown o =
       let got = reads_as numbers_text [] old new station_schema has numbers_command numbers_is.0 numbers_is.2 numbers_is.1 rows shown in
       let all = read_rows 0 numbers_shows [] (overlay old.now.trees []) rows (got.answer Null) in
       let one : all.0 ≡ o.row ∷ [] = one_permutation o.row all.0 (subst (λ tree. IsPermutation tree all.0) o.one all.1) in
       let exact : rows ≡ show_numbers o.row ∷ [] = all.2 ∙ ap (map show_numbers) one in
-      subst (IsOfOlder oldest) (sym exact) (o.version, o.version_is, o.older.0, o.older.1)
+      subst (IsOfOlder oldest version) (sym exact) (o.version_is, o.older.0, o.older.1)
 
-pub told_old : {B : Type 0} (r : Result B TableFault) (more : Type 0) → IsErrAnd r IsOldVersion → IsErrAnd r (λ e. (e ≡ table.OldVersion) ⊎ (e ≡ table.Memory) ⊎ more)
-told_old (Ok x) more h = absurd h
-told_old (Err e) more h = elim h [ inl old ↦ inl old | inr memory ↦ inr (inl memory) ]
+pub told_old : {B : Type 0} (was : ℕ) (r : Result B TableFault) (more : Type 0) → IsErrAnd r (IsOldVersion was) → IsErrAnd r (λ e. (e ≡ table.OldVersion was) ⊎ (e ≡ table.Memory) ⊎ more)
+told_old was (Ok x) more h = absurd h
+told_old was (Err e) more h = elim h [ inl old ↦ inl old | inr memory ↦ inr (inl memory) ]
 
 same_fault : {B E : Type 0} (e f : E) → ◌≡◌ {A = Result B E} (Err e) (Err f) → e ≡ f
 same_fault e f same = cc
 
 -- the query failed
-pub older_asked : {A B : Type 0} (oldest : ℕ) (old new : State) (fault : TableFault) (r : Result B TableFault) → IsErrAnd r (λ f. f ≡ fault) → (◌≡◌ {A = Result A TableFault} (Err fault) (Err table.OldVersion) → ⊥)
+pub older_asked : {A B : Type 0} (oldest : ℕ) (old new : State) (fault : TableFault) (r : Result B TableFault) → IsErrAnd r (λ f. f ≡ fault) → ((was : ℕ) → ◌≡◌ {A = Result A TableFault} (Err fault) (Err (table.OldVersion was)) → ⊥)
     → (HasCleanDisk new → old.now.schema ≡ station_schema → TellsFailure numbers_text old new fault) → RefusesOlder (HoldsOlder oldest) table.OldVersion table.Memory r old new
 older_asked oldest old new fault (Ok y) is known fails = absurd is
 older_asked oldest old new fault (Err f) is known fails = record {
-  only = λ clean same. absurd (known (ap Err (sym is ∙ same_fault f table.OldVersion same)));
-  older = λ clean ready o. inr (elim (query_fails station_schema 0 numbers_shows [] numbers_names numbers_text numbers_reads old new fault o.schema ready (fails clean o.schema)) [ inl memory ↦ inl (is ∙ memory) | inr more ↦ inr more ]);
+  only = λ clean was same. absurd (known was (ap Err (sym is ∙ same_fault f (table.OldVersion was) same)));
+  older = λ clean ready was o. inr (elim (query_fails station_schema 0 numbers_shows [] numbers_names numbers_text numbers_reads old new fault o.schema ready (fails clean o.schema)) [ inl memory ↦ inl (is ∙ memory) | inr more ↦ inr more ]);
 }
 
-old_by : (e : TableFault) → fault_of_table e ≡ OldVersion → e ≡ table.OldVersion
-old_by table.NotOurs h = absurd cc
-old_by table.OldVersion h = refl
-old_by table.Store h = absurd cc
-old_by table.Memory h = absurd cc
+old_by : (was : ℕ) (e : TableFault) → fault_of_table e ≡ OldVersion was → e ≡ table.OldVersion was
+old_by was table.NotOurs h = absurd cc
+old_by was (table.OldVersion n) h = let same : n ≡ was = cc in ap table.OldVersion same
+old_by was table.Store h = absurd cc
+old_by was table.Memory h = absurd cc
 
 -- it fails, and so does what asks it
 pub older_failed : {A B : Type 0} (oldest : ℕ) (e : TableFault) (r : Result B RecordsFault) (a b : State) → IsErrAnd r (λ f. f ≡ fault_of_table e) → RefusesOlder {A = A} (HoldsOlder oldest) table.OldVersion table.Memory (Err e) a b → RefusesOlder (HoldsOlder oldest) OldVersion Memory r a b
 older_failed oldest e (Ok y) a b is first = absurd is
 older_failed oldest e (Err f) a b is first = record {
-  only = λ clean same. first.only clean (ap Err (old_by e (sym is ∙ same_fault f OldVersion same)));
-  older = λ clean ready o. elim (first.older clean ready o) [
+  only = λ clean was same. first.only clean was (ap Err (old_by was e (sym is ∙ same_fault f (OldVersion was) same)));
+  older = λ clean ready was o. elim (first.older clean ready was o) [
     | inl old ↦ inl (is ∙ ap fault_of_table old)
     | inr (inl memory) ↦ inr (inl (is ∙ ap fault_of_table memory))
     | inr (inr more) ↦ inr (inr more)
@@ -78,32 +78,32 @@ older_failed oldest e (Err f) a b is first = record {
 }
 
 -- what goes on behind it isn't of an older version
-pub older_behind : {A B E : Type 0} (oldest : ℕ) (o m : E) (x : A) (r : Result B RecordsFault) (a b c : State) → RefusesOlder (HoldsOlder oldest) o m (Ok x) a b → (HasCleanDisk c → HasCleanDisk b) → (r ≡ Err OldVersion → ⊥) → RefusesOlder (HoldsOlder oldest) OldVersion Memory r a c
+pub older_behind : {A B E : Type 0} (oldest : ℕ) (o : ℕ → E) (m : E) (x : A) (r : Result B RecordsFault) (a b c : State) → RefusesOlder (HoldsOlder oldest) o m (Ok x) a b → (HasCleanDisk c → HasCleanDisk b) → ((was : ℕ) → r ≡ Err (OldVersion was) → ⊥) → RefusesOlder (HoldsOlder oldest) OldVersion Memory r a c
 older_behind oldest o m x r a b c first mid known = record {
-  only = λ clean is. absurd (known is);
-  older = λ clean ready h. absurd (first.older (mid clean) ready h);
+  only = λ clean was is. absurd (known was is);
+  older = λ clean ready was h. absurd (first.older (mid clean) ready was h);
 }
 
-pub never_old : {B : Type 0} (x : B) → ◌≡◌ {A = Result B RecordsFault} (Ok x) (Err OldVersion) → ⊥
-never_old x same = absurd cc
+pub never_old : {B : Type 0} (x : B) (was : ℕ) → ◌≡◌ {A = Result B RecordsFault} (Ok x) (Err (OldVersion was)) → ⊥
+never_old x was same = absurd cc
 
 -- a fault that is passed on
-pub passed_on : {A B : Type 0} (e : RecordsFault) (r : Result B RecordsFault) → IsErrAnd r (λ f. f ≡ e) → (◌≡◌ {A = Result A RecordsFault} (Err e) (Err OldVersion) → ⊥) → r ≡ Err OldVersion → ⊥
-passed_on e (Ok x) is known same = is
-passed_on e (Err f) is known same = known (ap Err (sym is ∙ same_fault f OldVersion same))
+pub passed_on : {A B : Type 0} (e : RecordsFault) (r : Result B RecordsFault) → IsErrAnd r (λ f. f ≡ e) → ((was : ℕ) → ◌≡◌ {A = Result A RecordsFault} (Err e) (Err (OldVersion was)) → ⊥) → (was : ℕ) → r ≡ Err (OldVersion was) → ⊥
+passed_on e (Ok x) is known was same = is
+passed_on e (Err f) is known was same = known was (ap Err (sym is ∙ same_fault f (OldVersion was) same))
 
 -- a row out of form is none of the version
-pub store_not_old : {A B : Type 0} (e : RecordsFault) (r : Result B RecordsFault) → IsErrAnd r (λ f. f ≡ e) → ◌≡◌ {A = Result A RecordsFault} (Err e) (Err Store) → r ≡ Err OldVersion → ⊥
-store_not_old e (Ok x) is fault same = is
-store_not_old e (Err f) is fault same = absurd (let clash = sym (sym is ∙ same_fault f OldVersion same) ∙ same_fault e Store fault in cc)
+pub store_not_old : {A B : Type 0} (e : RecordsFault) (r : Result B RecordsFault) → IsErrAnd r (λ f. f ≡ e) → ◌≡◌ {A = Result A RecordsFault} (Err e) (Err Store) → (was : ℕ) → r ≡ Err (OldVersion was) → ⊥
+store_not_old e (Ok x) is fault was same = is
+store_not_old e (Err f) is fault was same = absurd (let clash = sym (sym is ∙ same_fault f (OldVersion was) same) ∙ same_fault e Store fault in cc)
 
 -- a fault of other rows is none of the version, and names no party
-pub rows_not_old : {B : Type 0} (e : TableFault) (f : RecordsFault) → f ≡ fault_of_rows e → ◌≡◌ {A = Result B RecordsFault} (Err f) (Err OldVersion) → ⊥
-rows_not_old e f is same = by e (sym is ∙ same_fault f OldVersion same)
+pub rows_not_old : {B : Type 0} (e : TableFault) (f : RecordsFault) → f ≡ fault_of_rows e → (was : ℕ) → ◌≡◌ {A = Result B RecordsFault} (Err f) (Err (OldVersion was)) → ⊥
+rows_not_old e f is was same = by e (sym is ∙ same_fault f (OldVersion was) same)
   where
-    by : (e : TableFault) → fault_of_rows e ≡ OldVersion → ⊥
+    by : (e : TableFault) → fault_of_rows e ≡ OldVersion was → ⊥
     by table.NotOurs h = absurd cc
-    by table.OldVersion h = absurd cc
+    by (table.OldVersion n) h = absurd cc
     by table.Store h = absurd cc
     by table.Memory h = absurd cc
 
@@ -112,7 +112,7 @@ rows_name_none e f found wanted is same = by e (sym is ∙ same_fault f (OtherPa
   where
     by : (e : TableFault) → fault_of_rows e ≡ OtherParty found wanted → ⊥
     by table.NotOurs h = absurd cc
-    by table.OldVersion h = absurd cc
+    by (table.OldVersion n) h = absurd cc
     by table.Store h = absurd cc
     by table.Memory h = absurd cc
 
@@ -122,7 +122,7 @@ pub left_refused : {B : Type 0} (oldest : ℕ) (party : Party) (hubs : List Part
 left_refused oldest party hubs (Ok x) old new takes refuses clean = tt
 left_refused oldest party hubs (Err e) old new takes refuses clean = record {
   own = λ left. takes.taken clean left.ready left.holds;
-  older = λ left. refuses.older clean left.ready left.holds;
+  older = λ was left. refuses.older clean left.ready was left.holds;
 }
 
 pub refused_so : {B E : Type 0} (r : Result B E) (P : E → Type 0) → IsErrAnd r P → IsErr r
@@ -133,8 +133,8 @@ refused_so (Err e) P h = refl
 pub older_on : {A B : Type 0} (oldest : ℕ) (e : RecordsFault) (r : Result B RecordsFault) (a b : State) → IsErrAnd r (λ f. f ≡ e) → RefusesOlder {A = A} (HoldsOlder oldest) OldVersion Memory (Err e) a b → RefusesOlder (HoldsOlder oldest) OldVersion Memory r a b
 older_on oldest e (Ok y) a b is first = absurd is
 older_on oldest e (Err f) a b is first = record {
-  only = λ clean same. first.only clean (ap Err (sym is ∙ same_fault f OldVersion same));
-  older = λ clean ready o. elim (first.older clean ready o) [
+  only = λ clean was same. first.only clean was (ap Err (sym is ∙ same_fault f (OldVersion was) same));
+  older = λ clean ready was o. elim (first.older clean ready was o) [
     | inl old ↦ inl (is ∙ old)
     | inr (inl memory) ↦ inr (inl (is ∙ memory))
     | inr (inr more) ↦ inr (inr more)

@@ -29,17 +29,17 @@ use Rattle.x12_station_records.specs.StationTables.{other_value, posting_row, nu
 use Rattle.x12_station_records.specs.declared.station_numbers.NumbersRow.{NumbersRow}
 
 abbrev pub start_text : List ℕ
-start_text = codes "INSERT INTO numbers (one, version, party, hub, other, icn, gcn, seq, handed, noted, era) VALUES (1, 2, ?1, ?2, ?3, 0, 0, 0, 0, 0, 0)"
+start_text = codes "INSERT INTO numbers (one, version, party, hub, other, icn, gcn, seq, handed, noted, era) VALUES (1, 3, ?1, ?2, ?3, 0, 0, 0, 0, 0, 0)"
 
 abbrev start_terms : List Term
-start_terms = lit (Int (pos 1)) ∷ lit Null ∷ lit (Int (pos 2)) ∷ col 0 0 ∷ col 0 1 ∷ col 0 2 ∷ lit (Int (pos 0)) ∷ lit (Int (pos 0)) ∷ lit (Int (pos 0)) ∷ lit (Int (pos 0)) ∷ lit (Int (pos 0)) ∷ lit (Int (pos 0)) ∷ []
+start_terms = lit (Int (pos 1)) ∷ lit Null ∷ lit (Int (pos 3)) ∷ col 0 0 ∷ col 0 1 ∷ col 0 2 ∷ lit (Int (pos 0)) ∷ lit (Int (pos 0)) ∷ lit (Int (pos 0)) ∷ lit (Int (pos 0)) ∷ lit (Int (pos 0)) ∷ lit (Int (pos 0)) ∷ []
 
 start_is : (command_of (understood station_schema start_text) ≡ Insert 0 (Values start_terms 12)) × IsPlain (understood station_schema start_text)
 unfolding understood everything
 start_is = (refl, (refl, refl))
 
 abbrev first_numbers : Party → Hubs → NumbersRow
-first_numbers party hubs = record { version = 2; owner = record { party = party; hub = hubs.hub; other = hubs.other; noted = 0; era = 0 }; book = new_book; seq = 0; handed = 0 }
+first_numbers party hubs = record { version = 3; owner = record { party = party; hub = hubs.hub; other = hubs.other; noted = 0; era = 0 }; book = new_book; seq = 0; handed = 0 }
 
 abbrev pub start_params : Party → Hubs → Row
 start_params party hubs = Blob (bytes_of_party party) ∷ Blob (bytes_of_party hubs.hub) ∷ other_value hubs.other ∷ []

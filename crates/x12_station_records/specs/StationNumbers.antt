@@ -1,5 +1,5 @@
 -- What the row of a station's numbers says.
-use Rattle.std.specs.Prelude.{if◌then◌else◌, ◌≤◌, ◌==◌, ◌∷◌, [], ℕ, List}
+use Rattle.std.specs.Prelude.{if◌then◌else◌, ◌≤◌, ◌==◌, nat_lt, ◌∷◌, [], ℕ, List}
 use Rattle.sqlite.specs.declared.types.Value.{Value}
 use Rattle.sqlite.specs.declared.types.Value.TheVariants.{Blob}
 use Rattle.sqlite.specs.Order.{Row, column}
@@ -12,20 +12,21 @@ use Rattle.x12_tables.specs.Party.{party_in, bytes_in}
 use Rattle.x12_station_records.specs.declared.station_numbers.NumbersRow.{NumbersRow}
 
 -- The versions of a station's tables: from 1, in which each arrival is read as before acknowledgments
--- were noted, to 2, whose own marks say which are.
+-- were noted; by 2, whose own mark says which are, and in which each arrival is judged as before the
+-- edition changed; to 3, both of whose marks say so.
 abbrev pub first_version : ℕ
 first_version = 1
 
 abbrev pub newest_version : ℕ
-newest_version = 2
+newest_version = 3
 
--- Up to which number an arrival is read as before acknowledgments were noted, and as before the edition
--- changed, by the version of the tables, their last number, and the row's own mark.
+-- Up to which number an arrival is read as before acknowledgments were noted, and judged as before the
+-- edition changed, by the version of the tables, their last number, and the row's own mark.
 abbrev pub noted_by : ℕ → ℕ → ℕ → ℕ
 noted_by version seq noted = if version == 1 then seq else noted
 
 abbrev pub era_by : ℕ → ℕ → ℕ → ℕ
-era_by version seq era = if version == 1 then seq else era
+era_by version seq era = if nat_lt version 3 then seq else era
 
 -- whose the records are, the last control numbers, the last number of a submission or first arrival,
 -- and how many postings were handed over
@@ -50,8 +51,8 @@ numbers_view n = record {
   handed = n.handed;
 }
 
--- What is read as before acknowledgments were noted is read as before the edition changed, and no number
--- to come is.
+-- What is read as before acknowledgments were noted is judged as before the edition changed, and no
+-- number to come is.
 pub record AreMarked (n : KeptNumbers) : Type 0 where
   pub noted : n.origin.noted ≤ n.origin.era
   pub era : n.origin.era ≤ n.seq

@@ -158,21 +158,20 @@ HoldsInTurn last seqs db = HoldsStation db × ((content_of db.trees).seq ≡ las
 abbrev pub HoldsHanded : ℕ → Database → Type 0
 HoldsHanded handed db = HoldsStation db × ((content_of db.trees).handed ≡ handed)
 
--- The tables are a station's, of an older version than this: their one row says a number from 1 that is
--- below it.
-pub record HoldsOlder (oldest : ℕ) (db : Database) : Type 0 where
+-- The tables are a station's, of the second version, which is older than the first: their one row says
+-- that number, which is from 1.
+pub record HoldsOlder (oldest version : ℕ) (db : Database) : Type 0 where
   pub schema : db.schema ≡ station_schema
   pub row : Row
   pub one : db.trees 0 ≡ row ∷ []
-  pub version : ℕ
   pub version_is : column row 2 ≡ Int (pos version)
   pub older : (0 < version) × (version < oldest)
 
 -- such tables were left in a database that is open, in no transaction, and without a limit of steps
-pub record WereLeftOlder (oldest : ℕ) (s : State) : Type 0 where
+pub record WereLeftOlder (oldest version : ℕ) (s : State) : Type 0 where
   pub ready : IsAtRest s
   pub outside : s.in_transaction ≡ false
-  pub holds : HoldsOlder oldest s.now
+  pub holds : HoldsOlder oldest version s.now
 
 -- no transaction is open, and what is seen is committed
 pub record IsOutside (s : State) : Type 0 where
@@ -186,12 +185,13 @@ pub record WereLeftByStation (oldest : ℕ) (party : Party) (hubs : List Party) 
   pub outside : s.in_transaction ≡ false
   pub holds : HoldsStationOf oldest party hubs s.now
 
--- What a refusal to take records over tells is so: they are another's, or of an older version.
+-- What a refusal to take records over tells is so: they are another's, or of the older version that it
+-- names.
 pub record TellsRightly (oldest : ℕ) (party : Party) (hubs : List Party) (db : Database)
     (fault : RecordsFault) : Type 0 where
   pub other : (found wanted : Party) → fault ≡ OtherParty found wanted
       → IsOriginOf party hubs (content_of db.trees).origin → ⊥
-  pub older : fault ≡ OldVersion → HoldsOlder oldest db
+  pub older : (version : ℕ) → fault ≡ OldVersion version → HoldsOlder oldest version db
 
 -- Why what was left is refused: memory was missing, or the device failed in the call. Of an older
 -- version that is told first, wherever it was read.
@@ -199,5 +199,5 @@ pub record RefusesLeft (oldest : ℕ) (party : Party) (hubs : List Party) (fault
     (old new : State) : Type 0 where
   pub own : WereLeftByStation oldest party hubs old
       → (fault ≡ Memory) ⊎ MoreFaults old.faults new.faults
-  pub older : WereLeftOlder oldest old
-      → (fault ≡ OldVersion) ⊎ (fault ≡ Memory) ⊎ MoreFaults old.faults new.faults
+  pub older : (version : ℕ) → WereLeftOlder oldest version old
+      → (fault ≡ OldVersion version) ⊎ (fault ≡ Memory) ⊎ MoreFaults old.faults new.faults

@@ -1,6 +1,6 @@
 //! A station's records in a database that holds their tables.
 
-ghost use Rattle.std.specs.Prelude.{◌≡◌, ◌≢◌, [], Err, IfOk, map, IfErr, IsErr, OnOk};
+ghost use Rattle.std.specs.Prelude.{◌≡◌, ◌≢◌, ℕ, [], Err, IfOk, map, IfErr, IsErr, OnOk};
 ghost use Rattle.sqlite.specs.Held.{state};
 ghost use Rattle.sqlite.specs.State.{HasCleanDisk, Shown};
 ghost use Rattle.sql_rows.specs.Query.{IsQuery};
@@ -47,7 +47,7 @@ fn look<S: Alter>(conn: &mut Connection<S>, sql: &str) -> Result<Vec<Row>, Table
         (state S.Store conn.old) (state S.Store conn.new) rows.items) }
     ensures fails { HasCleanDisk (state S.Store conn.new) → conn.old.schema ≡ station_schema →
         IfErr result (TellsFailure sql.now (state S.Store conn.old) (state S.Store conn.new)) }
-    ensures known { result ≢ Err TableFault.OldVersion }
+    ensures known { (was : ℕ) → result ≢ Err (TableFault.OldVersion was) }
 {
     if !is_station_schema(conn.schema()) {
         return Err(TableFault::Store);
@@ -279,9 +279,10 @@ pub(crate) fn test_all<S: Alter>(
         IfErr result (λ e. RefusesLeft oldest party.now (hubs_of hubs.now) e
         (state S.Store conn.old) (state S.Store conn.new)) }
     ensures older { HasCleanDisk (state S.Store conn.new) →
-        WereLeftOlder oldest (state S.Store conn.old) → IsErr result }
-    ensures only { HasCleanDisk (state S.Store conn.new) →
-        result ≡ Err RecordsFault.OldVersion → HoldsOlder oldest (state S.Store conn.old).now }
+        (was : ℕ) → WereLeftOlder oldest was (state S.Store conn.old) → IsErr result }
+    ensures only { HasCleanDisk (state S.Store conn.new) → (was : ℕ) →
+        result ≡ Err (RecordsFault.OldVersion was) →
+        HoldsOlder oldest was (state S.Store conn.old).now }
 {
     if !is_station_schema(conn.schema()) {
         return Err(RecordsFault::NotOurs);

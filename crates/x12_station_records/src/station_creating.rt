@@ -93,7 +93,7 @@ fn start_station<S: Alter>(
     let other = other_bytes(&hubs.other);
     run(
         tx,
-        "INSERT INTO numbers (one, version, party, hub, other, icn, gcn, seq, handed, noted, era) VALUES (1, 2, ?1, ?2, ?3, 0, 0, 0, 0, 0, 0)",
+        "INSERT INTO numbers (one, version, party, hub, other, icn, gcn, seq, handed, noted, era) VALUES (1, 3, ?1, ?2, ?3, 0, 0, 0, 0, 0, 0)",
         &[
             ValueRef::Blob(&party),
             ValueRef::Blob(&hub),

@@ -1,6 +1,6 @@
 //! A station's records of an older version, which are brought to the newest.
 
-ghost use Rattle.std.specs.Prelude.{◌≡◌, ◌≢◌, ◌⊎◌, false, Err, IfOk, IfErr, OnErr};
+ghost use Rattle.std.specs.Prelude.{◌≡◌, ◌≢◌, ◌⊎◌, ℕ, false, Err, IfOk, IfErr, OnErr};
 ghost use Rattle.sqlite.specs.Held.{state};
 ghost use Rattle.sqlite.specs.State.{HasCleanDisk, Survives};
 ghost use Rattle.sql_rows.specs.Kept.{IsPart, IsWhole, MayBecome, Stays};
@@ -34,7 +34,7 @@ fn renew<S: Alter>(tx: &mut Transaction<'_, S>, noted: u64, era: u64) -> Result<
     let era = integer(era)?;
     run(
         tx,
-        "UPDATE numbers SET version = 2, noted = ?1, era = ?2",
+        "UPDATE numbers SET version = 3, noted = ?1, era = ?2",
         &[ValueRef::Int(noted), ValueRef::Int(era)],
     )
 }
@@ -75,7 +75,8 @@ pub(crate) fn migrate_station<S: Alter>(
     ensures others { conn.old.schema ≢ station_schema → result ≡ Err RecordsFault.NotOurs }
     ensures other { RefusesOthers (IsOriginOf party.now (hubs_of hubs.now)
         (content_of (state S.Store conn.old).now.trees).origin) result (state S.Store conn.new) }
-    ensures known { HasCleanDisk (state S.Store conn.new) → result ≢ Err RecordsFault.OldVersion }
+    ensures known { HasCleanDisk (state S.Store conn.new) → (was : ℕ) →
+        result ≢ Err (RecordsFault.OldVersion was) }
     ensures back { HasCleanDisk (state S.Store conn.new) →
         OnErr result (Stays (state S.Store conn.old) (state S.Store conn.new)) }
     ensures crash { Survives (state S.Store conn.old) (state S.Store conn.new)

@@ -1,6 +1,6 @@
 //! The row of a station's numbers.
 
-ghost use Rattle.std.specs.Prelude.{◌≡◌, ◌≢◌, ◌≤◌, ◌-◌, ◌^◌, pos, Err, IfOk, IsErrAnd};
+ghost use Rattle.std.specs.Prelude.{◌≡◌, ◌≢◌, ◌≤◌, ◌-◌, ◌^◌, ℕ, pos, Err, IfOk, IsErrAnd};
 ghost use Rattle.sqlite.specs.Held.{state};
 ghost use Rattle.sqlite.specs.Order.{column};
 ghost use Rattle.sqlite.specs.declared.error.Error.TheVariants.{SqliteFailure};
@@ -45,7 +45,7 @@ pub(crate) struct NumbersRow {
 }
 
 /// The newest version of a station's tables.
-pub const STATION_VERSION: u32 = 2;
+pub const STATION_VERSION: u32 = 3;
 
 /// The oldest version that is known, in which each arrival is read as before acknowledgments were noted.
 pub(crate) const FIRST_VERSION: u32 = 1;
@@ -125,7 +125,7 @@ fn numbers_in_row(row: &Row, version: u32) -> Result<NumbersRow, TableFault>
     ensures parties { IfOk result (λ n. AreWideParties n.owner) }
     ensures book { IfOk result (λ n. CanBeUsed n.book) }
     ensures taken { TakesRows (IsNumbersRow row.now) Memory result }
-    ensures known { result ≢ Err OldVersion }
+    ensures known { (was : ℕ) → result ≢ Err (OldVersion was) }
 {
     let owner = owner_in_row(row)?;
     let book = book_in_row(row)?;
@@ -141,13 +141,13 @@ fn numbers_in_row(row: &Row, version: u32) -> Result<NumbersRow, TableFault>
     })
 }
 
-/// What the one row says, of a version from this one to the newest; [`TableFault::OldVersion`] where it
-/// is of an older one, whatever else is in it.
+/// What the one row says, of a version from this one to the newest; [`TableFault::OldVersion`] with
+/// its own where it is of an older one, whatever else is in it.
 pub(crate) fn numbers_in_rows(rows: &[Row], oldest: u32) -> Result<NumbersRow, TableFault>
     ensures are { IfOk result (λ n. AreLastNumbers oldest n rows.now) }
     ensures taken { TakesRows (IsOneNumbersRow oldest rows.now) Memory result }
-    ensures older { IsOfOlder oldest rows.now → IsErrAnd result IsOldVersion }
-    ensures only { result ≡ Err OldVersion → IsOfOlder oldest rows.now }
+    ensures older { (was : ℕ) → IsOfOlder oldest was rows.now → IsErrAnd result (IsOldVersion was) }
+    ensures only { (was : ℕ) → result ≡ Err (OldVersion was) → IsOfOlder oldest was rows.now }
 {
     let (version, row) = row_of_versions(rows, oldest, STATION_VERSION)?;
     numbers_in_row(row, version)
@@ -163,11 +163,11 @@ pub(crate) fn noted_in(numbers: &NumbersRow) -> u64
     numbers.owner.noted
 }
 
-/// Up to which number arrivals are read as before the edition changed.
+/// Up to which number arrivals are judged as before the edition changed.
 pub(crate) fn era_in(numbers: &NumbersRow) -> u64
     ensures { result ≡ (numbers_view numbers.now).origin.era }
 {
-    if numbers.version == 1 {
+    if numbers.version < 3 {
         return numbers.seq;
     }
     numbers.owner.era

@@ -1,6 +1,6 @@
 //! Whose records these are.
 
-ghost use Rattle.std.specs.Prelude.{◌≡◌, ◌≢◌, Err, OnOk, OnErr, unwrap_or};
+ghost use Rattle.std.specs.Prelude.{◌≡◌, ◌≢◌, ℕ, Err, OnOk, OnErr, unwrap_or};
 ghost use Rattle.x12_outbound.specs.Hubs.{hubs_of};
 ghost use Rattle.x12_station.specs.Record.{owner_view};
 ghost use Rattle.x12_tables.specs.declared.fault.RecordsFault.{RecordsFault};
@@ -45,15 +45,15 @@ pub(crate) fn test_owner(owner: &Owner, party: &Party, hubs: &Hubs) -> Result<()
     ensures own { OnOk result (IsOriginOf party.now (hubs_of hubs.now) (owner_view owner.now)) }
     ensures other { OnErr result
         (IsOriginOf party.now (hubs_of hubs.now) (owner_view owner.now) → ⊥) }
-    ensures known { result ≢ Err RecordsFault.OldVersion }
+    ensures known { (was : ℕ) → result ≢ Err (RecordsFault.OldVersion was) }
 {
     test_party(&owner.party, party)?;
     test_party(&owner.hub, &hubs.hub)?;
     test_other(owner, &hubs.other)
 }
 
-/// Tests that what is read as before acknowledgments were noted is read as before the edition changed, and
-/// that no number to come is.
+/// Tests that what is read as before acknowledgments were noted is judged as before the edition changed,
+/// and that no number to come is.
 pub(crate) fn test_marks(numbers: &NumbersRow) -> Result<(), RecordsFault>
     ensures marked { OnOk result (AreMarked (numbers_view numbers.now)) }
     ensures unmarked { OnErr result (AreMarked (numbers_view numbers.now) → ⊥) }

@@ -1,7 +1,7 @@
 //! Records of a station in SQLite tables.
 
 ghost use Rattle.std.specs.Prelude.{◌≡◌, ◌≢◌, ◌↔◌, ◌∷◌, IsTrue, IfOk, IfErr, IsErrAnd, MatchResult};
-ghost use Rattle.std.specs.Prelude.{option_to_list};
+ghost use Rattle.std.specs.Prelude.{ℕ, option_to_list};
 ghost use Rattle.sqlite.specs.Held.{state};
 ghost use Rattle.sqlite.specs.State.{HasCleanDisk, Survives};
 ghost use Rattle.sql_rows.specs.Kept.{Stays, MayBecome};
@@ -95,8 +95,8 @@ impl<S: Alter> SqliteRecords<S> {
     /// written.
     ///
     /// A refusal gives the connection back: `NotOurs` where the tables aren't those of a station's
-    /// records or the row of their version is missing, `OldVersion` where they are of version 1
-    /// (tested before all that they hold), `Store` where the database failed, a transaction is open,
+    /// records or the row of their version is missing, `OldVersion` with their version where it is an
+    /// older one (tested before all that they hold), `Store` where the database failed, a transaction is open,
     /// or a row is out of form or order, `OtherParty` where they are another station's or those at
     /// other hubs (tested before the other tables), `Memory` where memory was missing.
     ///
@@ -131,7 +131,7 @@ impl<S: Alter> SqliteRecords<S> {
         // want of memory or of the device, or as one of an older version.
         ensures taken { MatchResult result
             (λ r. (r.failed ≡ 0) × (HasCleanDisk (state S.Store r.conn) →
-            WereLeftOlder newest_version (state S.Store conn) → ⊥))
+            (was : ℕ) → WereLeftOlder newest_version was (state S.Store conn) → ⊥))
             (λ e. HasCleanDisk (state S.Store e.0) →
             RefusesLeft newest_version party (hub ∷ option_to_list other) e.1
             (state S.Store conn) (state S.Store e.0)) }
@@ -149,7 +149,8 @@ impl<S: Alter> SqliteRecords<S> {
     /// is written.
     ///
     /// They stand for what they stood for. Version 1 says nothing of how arrivals are read: up to the last
-    /// number each was read as before acknowledgments were noted, and goes on to be.
+    /// number each was read as before acknowledgments were noted, and goes on to be. In versions 1 and 2
+    /// each was judged as before the edition changed, and goes on to be.
     ///
     /// A refusal gives the connection back, and leaves the tables as they were: the faults are those of
     /// `adopt`, but for `OldVersion`. A stop in the call leaves the tables as they were, or all of them of

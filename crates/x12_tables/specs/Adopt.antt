@@ -34,14 +34,16 @@ pub record Takes {A E : Type 0} (Such : Database → Type 0) (memory : E) (r : R
   pub taken : HasCleanDisk new → IsAtRest old → Such old.now
       → IfErr r (λ e. (e ≡ memory) ⊎ MoreFaults old.faults new.faults)
 
--- A call that refuses tables of an older version, over a clean disk: of no others does it say so; and
--- where the store is ready and its tables are older, it says so, or memory was missing, or the device
--- failed in the call.
-pub record RefusesOlder {A E : Type 0} (Older : Database → Type 0) (old_version memory : E)
-    (r : Result A E) (old new : State) : Type 0 where
-  pub only : HasCleanDisk new → r ≡ Err old_version → Older old.now
-  pub older : HasCleanDisk new → IsAtRest old → Older old.now
-      → IsErrAnd r (λ e. (e ≡ old_version) ⊎ (e ≡ memory) ⊎ MoreFaults old.faults new.faults)
+-- A call that refuses tables of an older version, over a clean disk: it names the version that they are
+-- of, and of no others does it say so; and where the store is ready and its tables are older, it says so,
+-- or memory was missing, or the device failed in the call.
+pub record RefusesOlder {A E : Type 0} (Older : ℕ → Database → Type 0) (old_version : ℕ → E)
+    (memory : E) (r : Result A E) (old new : State) : Type 0 where
+  pub only : HasCleanDisk new → (version : ℕ) → r ≡ Err (old_version version)
+      → Older version old.now
+  pub older : HasCleanDisk new → IsAtRest old → (version : ℕ) → Older version old.now
+      → IsErrAnd r (λ e. (e ≡ old_version version) ⊎ (e ≡ memory)
+      ⊎ MoreFaults old.faults new.faults)
 
 -- an error over what is such is want of memory
 abbrev pub TakesRows : {A E : Type 0} → Type 0 → E → Result A E → Type 0

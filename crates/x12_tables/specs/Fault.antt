@@ -15,7 +15,7 @@ abbrev pub records_fault_number : RecordsFault → List ℕ
 records_fault_number NotOurs = codes "Q1"
 records_fault_number Store = codes "Q2"
 records_fault_number Memory = codes "Q3"
-records_fault_number OldVersion = codes "Q4"
+records_fault_number (OldVersion version) = codes "Q4"
 records_fault_number (OtherParty found wanted) = codes "Q5"
 
 abbrev pub fault_of_error : Error → RecordsFault
@@ -28,7 +28,7 @@ table_fault_of _ = table.Store
 
 abbrev pub fault_of_table : TableFault → RecordsFault
 fault_of_table table.NotOurs = NotOurs
-fault_of_table table.OldVersion = OldVersion
+fault_of_table (table.OldVersion version) = OldVersion version
 fault_of_table table.Store = Store
 fault_of_table table.Memory = Memory
 
@@ -41,9 +41,9 @@ abbrev pub fault_of_rows : TableFault → RecordsFault
 fault_of_rows table.Memory = Memory
 fault_of_rows _ = Store
 
--- the tables are refused as those of an older version, or memory was missing
-abbrev pub IsOldVersion : TableFault → Type 0
-IsOldVersion fault = (fault ≡ table.OldVersion) ⊎ (fault ≡ table.Memory)
+-- the tables are refused as those of this older version, or memory was missing
+abbrev pub IsOldVersion : ℕ → TableFault → Type 0
+IsOldVersion version fault = (fault ≡ table.OldVersion version) ⊎ (fault ≡ table.Memory)
 
 -- where the refusal names two parties, the records aren't those that were asked for
 abbrev pub RefusesOthers : {A : Type 0} → Type 0 → Result A RecordsFault → State → Type 0

@@ -23,7 +23,8 @@ IsOfVersions oldest newest (r ∷ []) = (column r 0 ≡ Int (pos 1))
     × (n : ℕ) × (column r 1 ≡ Int (pos n)) × (oldest ≤ n) × (n ≤ newest)
 IsOfVersions oldest newest _ = ⊥
 
--- there is one row, whose version is an older one than this: a number from 1 that is below it
-abbrev pub IsOfOlder : ℕ → List Row → Type 0
-IsOfOlder version (r ∷ []) = (n : ℕ) × (column r 1 ≡ Int (pos n)) × (0 < n) × (n < version)
-IsOfOlder version _ = ⊥
+-- there is one row, which says the second version: a number from 1, and older than the first
+abbrev pub IsOfOlder : ℕ → ℕ → List Row → Type 0
+IsOfOlder oldest version (r ∷ []) = (column r 1 ≡ Int (pos version)) × (0 < version)
+    × (version < oldest)
+IsOfOlder oldest version _ = ⊥

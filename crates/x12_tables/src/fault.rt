@@ -20,10 +20,10 @@ pub enum RecordsFault {
     /// their version is missing, or has the number of no version up to this one.
     #[error("the database has other tables than these records: name another one")]
     NotOurs,
-    /// Q4. The records are of version 1, which an earlier release wrote. Nothing is wrong with them, and
-    /// `migrate` brings them to the newest version.
-    #[error("its records are of version 1: copy the folder, then run `van migrate DIR`")]
-    OldVersion,
+    /// Q4. The records are of this version, which is older than the newest. Nothing is wrong with them, and
+    /// `migrate` brings them to the newest.
+    #[error("its records are of version {0}: copy the folder, then run `van migrate DIR`")]
+    OldVersion(u32),
     /// Q2. The database did not do what it was asked, a transaction was open, or a row is out of the
     /// form or the order of its table.
     #[error("the database failed, or holds a row out of form: see to the device, then try again")]
@@ -52,7 +52,7 @@ impl RecordsFault {
             RecordsFault::NotOurs => "Q1",
             RecordsFault::Store => "Q2",
             RecordsFault::Memory => "Q3",
-            RecordsFault::OldVersion => "Q4",
+            RecordsFault::OldVersion(_) => "Q4",
             RecordsFault::OtherParty { .. } => "Q5",
         }
     }
@@ -74,8 +74,8 @@ impl From<Error> for RecordsFault {
 pub enum TableFault {
     /// Other tables than those of the records, or no row of their version.
     NotOurs,
-    /// The tables of an older version.
-    OldVersion,
+    /// The tables of this older version.
+    OldVersion(u32),
     /// The database failed, or a row is out of form or order.
     Store,
     /// Memory was missing.
@@ -107,7 +107,7 @@ impl From<TableFault> for RecordsFault {
     fn from(fault: TableFault) -> RecordsFault {
         match fault {
             TableFault::NotOurs => RecordsFault::NotOurs,
-            TableFault::OldVersion => RecordsFault::OldVersion,
+            TableFault::OldVersion(version) => RecordsFault::OldVersion(version),
             TableFault::Store => RecordsFault::Store,
             TableFault::Memory => RecordsFault::Memory,
         }

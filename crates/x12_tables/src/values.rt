@@ -1,6 +1,6 @@
 //! Values in rows.
 
-ghost use Rattle.std.specs.Prelude.{◌≡◌, ◌<◌, ◌≤◌, ◌^◌, pos, IfOk, [], ◌∷◌, OnOk, IsOk, Err, IsErrAnd};
+ghost use Rattle.std.specs.Prelude.{◌≡◌, ◌<◌, ◌≤◌, ◌^◌, ℕ, pos, IfOk, [], ◌∷◌, OnOk, IsOk, Err, IsErrAnd};
 ghost use Rattle.sqlite.specs.Order.{column};
 ghost use Rattle.sqlite.specs.declared.error.Error.TheVariants.{SqliteFailure};
 ghost use Rattle.sqlite.specs.declared.error.ErrorCode.TheVariants.{OutOfMemory};
@@ -70,12 +70,13 @@ fn test_version(row: &Row, oldest: u32, newest: u32) -> Result<u32, TableFault>
     ensures version { IfOk result (λ n. column row.now 1 ≡ Int (pos n)) }
     ensures within { IfOk result (λ n. (oldest ≤ n) × (n ≤ newest)) }
     ensures taken { TakesRows (IsOfVersions oldest newest (row.now ∷ [])) Memory result }
-    ensures older { IsOfOlder oldest (row.now ∷ []) → IsErrAnd result IsOldVersion }
-    ensures only { result ≡ Err OldVersion → IsOfOlder oldest (row.now ∷ []) }
+    ensures older { (was : ℕ) → IsOfOlder oldest was (row.now ∷ []) →
+        IsErrAnd result (IsOldVersion was) }
+    ensures only { (was : ℕ) → result ≡ Err (OldVersion was) → IsOfOlder oldest was (row.now ∷ []) }
 {
     let version = number_in(row, 1)?;
     if 0 < version && version < oldest {
-        return Err(TableFault::OldVersion);
+        return Err(TableFault::OldVersion(version));
     }
     if version < oldest {
         return Err(TableFault::NotOurs);
@@ -91,7 +92,7 @@ fn test_version(row: &Row, oldest: u32, newest: u32) -> Result<u32, TableFault>
 }
 
 /// The version and the one row of a table that says it, where that is one from the oldest to the newest.
-/// It is tested before all else: [`TableFault::OldVersion`] where it is older, from 1 on;
+/// It is tested before all else: [`TableFault::OldVersion`] with it where it is older, from 1 on;
 /// [`TableFault::NotOurs`] where there is no row, or one of any other version; [`TableFault::Store`]
 /// where there are several rows, or the key isn't 1.
 pub fn row_of_versions(rows: &[Row], oldest: u32, newest: u32) -> Result<(u32, &Row), TableFault>
@@ -100,8 +101,8 @@ pub fn row_of_versions(rows: &[Row], oldest: u32, newest: u32) -> Result<(u32, &
     ensures version { IfOk result (λ x. column x.1.now 1 ≡ Int (pos x.0)) }
     ensures within { IfOk result (λ x. (oldest ≤ x.0) × (x.0 ≤ newest)) }
     ensures taken { TakesRows (IsOfVersions oldest newest rows.now) Memory result }
-    ensures older { IsOfOlder oldest rows.now → IsErrAnd result IsOldVersion }
-    ensures only { result ≡ Err OldVersion → IsOfOlder oldest rows.now }
+    ensures older { (was : ℕ) → IsOfOlder oldest was rows.now → IsErrAnd result (IsOldVersion was) }
+    ensures only { (was : ℕ) → result ≡ Err (OldVersion was) → IsOfOlder oldest was rows.now }
 {
     if rows.is_empty() {
         return Err(TableFault::NotOurs);

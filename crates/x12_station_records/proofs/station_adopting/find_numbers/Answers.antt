@@ -47,8 +47,8 @@ returns-clause-older g c =
     let rows = c.in_ok-rows.rows.items in
     let ours = c.in_ok-rows.ensures.ours in
     record {
-      only = λ clean is. older_found c.args.oldest old new (ours.found clean).0.schema_is rows (c.in_ok-rows.ensures.shown clean) (subst (IsOfOlder c.args.oldest) c.deref.ensures.value (c.numbers_in_rows.ensures.only is));
-      older = λ clean ready o. told_old c.numbers_in_rows.result (MoreFaults old.faults new.faults) (c.numbers_in_rows.ensures.older (subst (IsOfOlder c.args.oldest) (sym c.deref.ensures.value) (older_shown c.args.oldest old new o.schema rows (c.in_ok-rows.ensures.shown clean) o)));
+      only = λ clean was is. older_found c.args.oldest was old new (ours.found clean).0.schema_is rows (c.in_ok-rows.ensures.shown clean) (subst (IsOfOlder c.args.oldest was) c.deref.ensures.value (c.numbers_in_rows.ensures.only was is));
+      older = λ clean ready was o. told_old was c.numbers_in_rows.result (MoreFaults old.faults new.faults) (c.numbers_in_rows.ensures.older was (subst (IsOfOlder c.args.oldest was) (sym c.deref.ensures.value) (older_shown c.args.oldest was old new o.schema rows (c.in_ok-rows.ensures.shown clean) o)));
     }
 
 pub returns-in_err-rows-clause-older : goal.returns-in_err-rows-clause-older

@@ -8,7 +8,7 @@ returns-clause-taken g c clean =
     left_refused c.args.oldest c.args.party.now (hubs_of c.args.hubs.now) c.find_records.result (state g.S.Store c.args.conn.now) (state g.S.Store c.find_records.new.conn) c.find_records.ensures.taken c.find_records.ensures.older clean
 
 pub returns-clause-older : goal.returns-clause-older
-returns-clause-older g c clean left = refused_so c.find_records.result _ (c.find_records.ensures.older.older clean left.ready left.holds)
+returns-clause-older g c clean was left = refused_so c.find_records.result _ (c.find_records.ensures.older.older clean left.ready was left.holds)
 
 pub returns-clause-only : goal.returns-clause-only
-returns-clause-only g c clean is = c.find_records.ensures.older.only clean is
+returns-clause-only g c clean was is = c.find_records.ensures.older.only clean was is

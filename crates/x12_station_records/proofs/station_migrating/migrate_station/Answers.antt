@@ -1,10 +1,11 @@
-use Rattle.std.proofs.Common.{◌≡◌, ◌∙◌, Err, IsTrue, inl, inr, sym}
+use Rattle.std.proofs.Common.{◌≡◌, ◌∙◌, Err, IsTrue, inl, inr, sym, arith}
 use Rattle.sqlite.proofs.StateLemmas.{clean_if_open}
 use Rattle.sqlite.specs.Held.{state}
 use Rattle.sqlite.specs.State.{HasCleanDisk}
 use Rattle.x12_outbound.specs.Hubs.{hubs_of}
 use Rattle.x12_station_records.proofs.StationFoundLemmas.{valid_found}
 use Rattle.x12_station_records.proofs.StationMigrateLemmas.{found_older, valid_newer, back_again, crash_migrates, writing_not_old, writing_names_none}
+use Rattle.x12_station_records.proofs.StationOlder.{passed_on}
 use Rattle.x12_station_records.specs.StationNumbers.{first_version}
 use Rattle.x12_station_records.proofs.station_migrating.migrate_station.Goals as goal
 
@@ -53,9 +54,15 @@ returns-in-Err g c =
       migrated = tt;
       others = λ schema. absurd (let clash = sym c.in_ok-next.was ∙ c.test_all.ensures.others schema in cc);
       other = λ found wanted is clean own. writing_names_none c.writing_fault.result found wanted which is;
-      known = λ clean is. writing_not_old c.writing_fault.result which is;
+      known = λ clean was is. writing_not_old c.writing_fault.result was which is;
       back = back_again c.args.party.now (hubs_of c.args.hubs.now) (c.in_ok-next.next, c.in_ok-next.numbers) old mid c.in_ok-next.ensures.finds c.if-numbers-eq-STATION_VERSION.false c.noted_in.result c.era_in.result c.noted_in.ensures c.era_in.ensures c.in-Err.error new c.in-Err.ensures.whole;
       crash = crash_migrates c.args.party.now (hubs_of c.args.hubs.now) (c.in_ok-next.next, c.in_ok-next.numbers) old mid c.in_ok-next.ensures.finds c.if-numbers-eq-STATION_VERSION.false c.noted_in.result c.era_in.result c.noted_in.ensures c.era_in.ensures
           c.renew_whole.result new c.renew_whole.ensures.whole;
       taken = λ clean were. elim which [ inl memory ↦ inl memory | inr store ↦ inr (inl store) ];
     }
+
+-- nothing is older than the first version
+pub returns-in_err-next-clause-known : goal.returns-in_err-next-clause-known
+returns-in_err-next-clause-known g c clean =
+    passed_on c.in_err-next.field-0.0 c.from_residual.result c.from_residual.ensures.1
+    (λ was same. let older = (c.in_err-next.ensures.only clean was same).older in omega (arith, older.0, older.1))

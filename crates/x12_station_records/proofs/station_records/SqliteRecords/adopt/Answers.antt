@@ -1,4 +1,4 @@
-use Rattle.std.proofs.Common.{◌∷◌, arith, IsTrue}
+use Rattle.std.proofs.Common.{◌∷◌, Err, arith, ap, refl, IsTrue}
 use Rattle.std.specs.Prelude.{option_to_list}
 use Rattle.sqlite.proofs.StateLemmas.{clean_if_open}
 use Rattle.sqlite.specs.Held.{state}
@@ -19,3 +19,12 @@ returns-in-Ok-clause-never_won_back g c is_open =
     let new = state g.S.Store c.test_all.new.conn in
     let law : IsTrue new.is_open → HasCleanDisk new = clean_if_open (g.S.Store.view c.test_all.new.conn.store) (g.met.S.Store.shut_if_dirty c.test_all.new.conn.store) in
     (c.in-Ok.ensures.finds.found (law is_open)).1.0.was_open
+
+pub returns-in-Ok-clause-taken : goal.returns-in-Ok-clause-taken
+returns-in-Ok-clause-taken g c = (refl, λ clean was left. absurd (let refused = c.in-Ok.ensures.older clean was left in cc))
+
+pub returns-in-Err-clause-other : goal.returns-in-Err-clause-other
+returns-in-Err-clause-other g c clean = record {
+  other = λ found wanted is own. c.in-Err.ensures.other found wanted (ap Err is) clean own;
+  older = λ was is. c.in-Err.ensures.only clean was (ap Err is);
+}
