@@ -43,9 +43,9 @@ def stored(party):
     return f"{party:<17}".encode()
 
 
-def isa(sender, receiver, icn, time="0930", ack=0):
+def isa(sender, receiver, icn, time="0930", ack=0, controls="U*00401"):
     parties = "*".join(f"{it[:2]}*{it[2:]:<15}" for it in (sender, receiver))
-    return f"ISA*00*          *00*          *{parties}*250102*{time}*U*00401*{icn:09}*{ack}*P*:~"
+    return f"ISA*00*          *00*          *{parties}*250102*{time}*{controls}*{icn:09}*{ack}*P*:~"
 
 
 def group(functional, sender, receiver, gcn, *sets, time="0930"):
@@ -66,10 +66,10 @@ def orders(sender, receiver, icn, gcn, *sets, ack=0):
     return isa(sender, receiver, icn, ack=ack) + group("PO", sender, receiver, gcn, *sets) + iea(1, icn)
 
 
-def answer(sender, receiver, icn, gcn, told, time="0931", ta1=""):
+def answer(sender, receiver, icn, gcn, told, time="0931", ta1="", controls="U*00401"):
     """An interchange with a 997, and what stands in front of it."""
     said = f"ST*997*0001~{told}SE*{told.count('~') + 2}*0001~"
-    return isa(sender, receiver, icn, time) + ta1 + group("FA", sender, receiver, gcn, said, time=time) + iea(1, icn)
+    return isa(sender, receiver, icn, time, 0, controls) + ta1 + group("FA", sender, receiver, gcn, said, time=time) + iea(1, icn)
 
 
 # --- A hub's story: a line, and what is answered ---------------------------------------------------------------------
@@ -155,7 +155,7 @@ NEW_STATION = [
     ("", "failures 0"),
 ]
 STATION_ROWS = {
-    "numbers": [(1, 2, stored("ZZALPHA"), stored("ZZHUB"), None, 8, 11, 6, 0, 0, 0)],
+    "numbers": [(1, 3, stored("ZZALPHA"), stored("ZZHUB"), None, 8, 11, 6, 0, 0, 0)],
     "agreement": [(2, stored("ZZGAMMA"), b"PO", 1, b"850"), (3, stored("ZZGAMMA"), b"IN", 1, b"810"),
                   (4, stored(DUNS), b"PO", 0, b"850"), (5, stored(DUNS), b"PR", 0, b"855")],
     "outbound": [(5, 1, stored(DUNS), TWO_GROUPS.encode()), (6, 2, stored("ZZGAMMA"), TO_GAMMA.encode())],
@@ -180,7 +180,7 @@ OLD_STATION = [
     ("", "failures 0"),
 ]
 STATION_ANSWERS = [
-    [f"{'ZZALPHA':<17}|{'ZZHUB':<17}|2"],
+    [f"{'ZZALPHA':<17}|{'ZZHUB':<17}|3"],
     [f"2|{'ZZGAMMA':<17}|6|1|1|PO|9|0001"],
     ["pending|1", "accepted|1", "rejected|1", "noted|1"],
     [f"{DUNS:<17}|5|1|2|0002"],
@@ -215,21 +215,23 @@ CHANGED_STATION = {
     "UPDATE posting SET setid = x'3835' WHERE at = 1": "a transaction set's identifier of two bytes",
 }
 OUT_OF_FORM = "the database failed, or holds a row out of form"
-# What is done to a file, and why the version of its tables is then what is refused: first as version 1 would have left it.
-OLDER = "UPDATE numbers SET version = 1"
-OF_VERSION_1 = {
+# What is done to a file, and why the version of its tables is then what is refused: first as version 1 or 2 would have
+# left it.
+OLDER = {version: f"UPDATE numbers SET version = {version}" for version in (1, 2)}
+OF_OLDER = {
     "UPDATE agreement SET lenient = 0; UPDATE outset SET fate = 1 WHERE fate = 3": "as they are",
     "DELETE FROM outset WHERE icn = 6; UPDATE numbers SET seq = 900": "with rows that are out of form",
     "UPDATE numbers SET party = x'5A5A'": "with a party of two bytes",
 }
-IS_OLDER = "its records are of version 1: copy the folder, then run `van migrate DIR`"
-OTHER_VERSIONS = ("UPDATE numbers SET version = 0", "UPDATE numbers SET version = 3", "DELETE FROM numbers")
+IS_OLDER = {version: f"its records are of version {version}: copy the folder, then run `van migrate DIR`" for version in OLDER}
+OTHER_VERSIONS = ("UPDATE numbers SET version = 0", "UPDATE numbers SET version = 4", "DELETE FROM numbers")
 NOT_OURS = "the database has other tables than these records"
 # What is done to a file, and what may then be in force: records that a station may have left.
 ALLOWED_STATION = {
     "UPDATE agreement SET lenient = 1": "every agreement lenient",
     "UPDATE outset SET fate = 3 WHERE fate = 1": "an accepted set noted",
     "UPDATE numbers SET noted = 6, era = 6": "all arrivals read as before",
+    "UPDATE numbers SET era = 6": "all arrivals judged as before",
 }
 
 # --- Records of version 1 --------------------------------------------------------------------------------------------
@@ -245,7 +247,7 @@ VERSION_1 = [
     ("", "failures 0"),
 ]
 AS_VERSION_1 = "UPDATE outset SET fate = 1 WHERE fate = 3;UPDATE numbers SET version = 1"
-MIGRATED_ROWS = {"numbers": [(1, 2, stored("ZZALPHA"), stored("ZZHUB"), None, 6, 8, 3, 0, 3, 3)]}
+MIGRATED_ROWS = {"numbers": [(1, 3, stored("ZZALPHA"), stored("ZZHUB"), None, 6, 8, 3, 0, 3, 3)]}
 # What was accepted stays so, and what comes now is read anew.
 MIGRATED = [
     ("", "opened\nopen, new false"),
@@ -257,6 +259,35 @@ MIGRATED = [
     ("fate 5 1 1", "accepted"),
     ("", "failures 0"),
 ]
+
+# --- Records of version 2 --------------------------------------------------------------------------------------------
+
+# ALPHA's order. Its partner accepts it, in interchanges of control version 00501, the second with a repetition separator.
+NEWER = {21: "U*00501", 22: "^*00501"}
+TAKEN = "AK1*PO*7~AK2*850*0001~AK5*A~AK9*A*1*1*1~"
+NEWER_ANSWERS = [answer(DUNS, "ZZALPHA", n, n, TAKEN, controls=it) for n, it in NEWER.items()]
+VERSION_2 = [("", "opened\nopen, new true"), (f"submit {OLD_ORDERS[0]}", "sent 5"), ("", "failures 0")]
+# Version 2 refused the first answer, read nothing of it, and kept its reply.
+NOT_SUPPORTED = isa("ZZALPHA", DUNS, 6, "0931") + "TA1*000000021*250102*0931*R*003~IEA*0*000000006~"
+AS_VERSION_2 = (f"INSERT INTO inbound VALUES (2, CAST('{DUNS:<17}' AS BLOB), 21, CAST('{NOT_SUPPORTED}' AS BLOB),"
+                f" CAST('{NEWER_ANSWERS[0]}' AS BLOB));UPDATE numbers SET version = 2, icn = 6, seq = 2")
+MIGRATED_ROWS_2 = {"numbers": [(1, 3, stored("ZZALPHA"), stored("ZZHUB"), None, 6, 7, 2, 0, 0, 2)]}
+# What was refused stays so, and its repeat gets the reply that was kept. What comes now is judged anew.
+MIGRATED_2 = [
+    ("", "opened\nopen, new false"),
+    ("fate 5 1 1", "pending"),
+    (f"arrive {NEWER_ANSWERS[0]}", f"same, settled 0, {NOT_SUPPORTED}"),
+    ("fate 5 1 1", "pending"),
+    (f"arrive {NEWER_ANSWERS[1]}", "new, settled 1, no reply"),
+    ("fate 5 1 1", "accepted"),
+    ("", "failures 0"),
+]
+# What a station noted under version 2, with a mark of its own and without: `noted` stays, and `era` is `seq`.
+MARKED = {
+    "UPDATE numbers SET version = 2": (0, 8),
+    "UPDATE numbers SET version = 2, noted = 3, era = 3": (3, 8),
+    "UPDATE numbers SET version = 1": (8, 8),
+}
 
 # --- The page --------------------------------------------------------------------------------------------------------
 
@@ -460,12 +491,20 @@ def takes(path, sql):
 
 
 def migrates(path, was):
-    """Whether a station's records are migrated, which were of this version, and stay as they are where that was 2."""
+    """Whether a station's records are migrated, which were of this version, and stay as they are where that was 3."""
     with open(path, "rb") as file:
         before = file.read()
     told = run(["station", "migrate", path], [])
     with open(path, "rb") as file:
-        return told == (f"migrated, was {was}\n", 0) and (was == 1 or file.read() == before)
+        return told == (f"migrated, was {was}\n", 0) and (was < 3 or file.read() == before)
+
+
+def is_marked(path, sql, marks):
+    """Whether a station's records are migrated with these marks, once SQLite has done this to a copy of their file."""
+    with tempfile.TemporaryDirectory(prefix="changed-") as room:
+        changed = changed_by(path, sql, f"{room}/changed.db")
+        was = ask(changed, "SELECT version FROM numbers")[0][0]
+        return migrates(changed, was) and ask(changed, "SELECT version, noted, era FROM numbers") == [(3, *marks)]
 
 
 def survives_kills(path):
@@ -517,10 +556,10 @@ def shown(room, page):
     yield "a station isn't opened over another's file", run(["station", "other", station], [])[1] == FAILED
     for sql, what in CHANGED_STATION.items():
         yield f"a station doesn't take over records in which {what}: {sql}", refuses("station", station, sql)
-    for sql, what in OF_VERSION_1.items():
-        for age in ("old", "other"):
-            yield (f"records of version 1, {what}, are refused as such, asked for as {age}",
-                   refuses("station", station, f"{OLDER};{sql}", IS_OLDER, age))
+    for sql, what in OF_OLDER.items():
+        for age, version in (("old", 1), ("other", 1), ("old", 2), ("other", 2)):
+            yield (f"records of version {version}, {what}, are refused as such, asked for as {age}",
+                   refuses("station", station, f"{OLDER[version]};{sql}", IS_OLDER[version], age))
     for sql in OTHER_VERSIONS:
         yield f"tables of no version up to this one aren't a station's: {sql}", refuses("station", station, sql, NOT_OURS)
     for sql, what in ALLOWED_STATION.items():
@@ -534,7 +573,7 @@ def migrated(room, hub, station):
     made = f"{room}/made.db"
     yield "a station over a new file answers, of version 1", tells("station", "new", made, VERSION_1)
     older = changed_by(made, AS_VERSION_1, f"{room}/older.db")
-    yield "records of version 1 aren't taken over", refuses("station", made, AS_VERSION_1, IS_OLDER)
+    yield "records of version 1 aren't taken over", refuses("station", made, AS_VERSION_1, IS_OLDER[1])
     yield "nor migrated as another's", refuses("station", made, AS_VERSION_1, "the records are of", "migrate-other")
     out_of_form = f"{AS_VERSION_1};UPDATE numbers SET seq = 900"
     yield "nor where they are out of form", refuses("station", made, out_of_form, OUT_OF_FORM, "migrate")
@@ -543,9 +582,26 @@ def migrated(room, hub, station):
     yield "nor a hub's", run(["station", "migrate", hub], [])[1] == FAILED
     yield "records of version 1 are migrated", migrates(older, 1)
     yield "SQLite finds no fault in a file that was migrated", is_sound(older)
-    yield "they are of version 2, with their marks", has_rows(older, MIGRATED_ROWS)
+    yield "they are of version 3, with their marks", has_rows(older, MIGRATED_ROWS)
     yield "the migrated station goes on: what was accepted stays", tells("station", "old", older, MIGRATED)
-    yield "records of version 2 are migrated by nothing", migrates(older, 2) and migrates(station, 2)
+    yield "records of version 3 are migrated by nothing", migrates(older, 3) and migrates(station, 3)
+    yield from migrated_from_2(room, station)
+
+
+def migrated_from_2(room, station):
+    """What is shown of records of version 2, and whether it holds."""
+    made = f"{room}/made2.db"
+    yield "a station over a new file answers, of version 2", tells("station", "new", made, VERSION_2)
+    older = changed_by(made, AS_VERSION_2, f"{room}/older2.db")
+    yield "records of version 2 aren't taken over", refuses("station", made, AS_VERSION_2, IS_OLDER[2])
+    out_of_form = f"{AS_VERSION_2};UPDATE numbers SET noted = 3"
+    yield "nor migrated where they are out of form", refuses("station", made, out_of_form, OUT_OF_FORM, "migrate")
+    yield "records of version 2 are migrated", migrates(older, 2)
+    yield "SQLite finds no fault in that file", is_sound(older)
+    yield "they are of version 3, and all that came is judged as before", has_rows(older, MIGRATED_ROWS_2)
+    yield "what was refused stays so, and what comes is taken", tells("station", "old", older, MIGRATED_2)
+    for sql, marks in MARKED.items():
+        yield f"these marks are {marks} then: {sql}", is_marked(station, sql, marks)
 
 
 def main():

@@ -1,5 +1,8 @@
 """Random inputs: transmissions that are mostly X12 and then bitten, and scripts of a network of three stations."""
 NASTY = b"\0\n\r\x1f *~:|>+A0\x7f\x80\xff"
+# ISA11 and ISA12: supported ones mostly, then of every kind.
+CONTROLS = ["U*00401"] * 12 + ["^*00501", "U*00501", "^*00402", "!*00500", "U*00200", "^*00401", "^*00200", "B*00501", "7*00402",
+            " *00501", "u*00500", "U*00502", "^*00601", "U*00199", "^*00199", "^*0050A", "X*00401"]
 DELIMITERS = [b"*:~"] * 4 + [b"|>~", b"*:\n", b"+@'", b"*<\r", b"\x1d\x1f\x1c"]
 BEGS = ["BEG*00*SA*PO-1**20250102", "BEG*00*SA*X**20250102", "BEG*000*SA***20250102", "BEG*00*SA*PO-1**20251302", "BEG"]
 PO1S = ["PO1*1*10*EA*5", "PO1*1*10*EA*5", "PO1**1*EA", "PO1*1*x*EA*5", "PO1*1*10*EA*5****VP*7", "REF*ZZ*1", "ZZZ*1", "N1*ST*A"]
@@ -25,7 +28,7 @@ def interchange(rng, icn):
     groups = [segments_of_group(rng, icn * 10 + at) for at in range(rng.choice([0, 1, 1, 1, 2, 3]))]
     receiver = rng.choice(["BETA"] * 12 + ["GAMMA"]).ljust(15)
     front = "ISA*00*          *00*          *ZZ*ALPHA          *ZZ*" + receiver
-    front += f"*250102*0930*U*00401*{icn:09}*{rng.randrange(2)}*P*:"
+    front += f"*250102*0930*{rng.choice(CONTROLS)}*{icn:09}*{rng.randrange(2)}*P*:"
     said = icn if rng.random() < 0.97 else icn + 1
     segments = [front, *[it for one in groups for it in one], f"IEA*{len(groups)}*{said:09}"]
     delimiters = rng.choice(DELIMITERS)

@@ -63,6 +63,24 @@ def objects(name, words, given=b""):
     return [it for it in found if "error" not in it]
 
 
+def note_of_controls(text):
+    """The note on ISA11 and ISA12 (X12.5) of a header that can be read; None where both are supported."""
+    standard, version = text[82:83], int(text[84:89]) if text[84:89].isdigit() else 0
+    if standard != b"U" and (200 <= version <= 401 or 402 <= version <= 501 and (standard == b" " or standard.isalnum())):
+        return "002"
+    return None if 200 <= version <= 501 else "003"
+
+
+def try_controls(text, first):
+    """The first interchange, where it is the receiver's, is refused for its controls just where they aren't supported.
+    Where it holds TA1s alone, nothing is judged."""
+    if "number" in first and first.get("receiver") == "ZZ/BETA" and (first.get("refused") or first.get("groups")):
+        told = first["refused"]["code"] if first.get("refused") else None
+        wanted = note_of_controls(text)
+        if (told if told in ("002", "003") else None) != wanted:
+            raise Broken(f"ISA11 and ISA12 want {wanted}, and check says {told}")
+
+
 def try_csv(path):
     """CSV by RFC 4180: each line ends with CR LF and has the columns of the first."""
     text = ran("van", ["check", "--csv", path]).decode("utf-8")
@@ -130,6 +148,7 @@ def try_transmission(path, folder):
     lenient = ["--lenient"] if len(text) % 2 else []
     replies = ran("vanlab", [*ANSWER, *lenient], text)
     found = objects("van", ["check", "--json", *lenient, "--me", "ZZBETA", "PO850", path])
+    try_controls(text, found[0])
     agree(found, objects("van", ["explain", "--json"], replies))
     sent = objects("van", ["check", "--json", "--as-sender", "--me", "ZZALPHA", path])
     if len(sent) == 1 and sent[0]["accepted"] and found[0].get("receiver") == "ZZ/BETA" and replies:
